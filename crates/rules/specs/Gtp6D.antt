@@ -1,0 +1,35 @@
+-- What D and Di share: a G-PDU in IPv6 becomes an SRv6 packet along a path.
+use mathlib.Core.List.{List, [], _∷_}
+use lib.ListN.{length}
+use Prim.Native.Nat.{ℕ}
+use Rattle.rules.specs.Entry as Entry
+use Rattle.rules.specs.Answer.{Row, row, segmentsLeftRow, upperLayerRow, lengthRow, Outcome, Sent, unless}
+use Rattle.rules.specs.Header.{header, badChain, segmentsRemain}
+use Rattle.rules.specs.Datagram.{datagram, notGtpu, messageRows, gPduRows, badInner}
+use Rattle.rules.specs.Carried.{Carried, carried6, datagramIn6}
+use Rattle.rules.specs.Session.{innerProtocol}
+use Rattle.rules.specs.Srv6.{srv6, srv6Payload}
+use Rattle.rules.specs.declared.Header.{Header}
+use Rattle.rules.specs.declared.Datagram.{Datagram}
+
+-- what is written: traffic class copied from the removed header, hop limit and source address from the entry (house)
+unfoldable pub gtp6DPacket : (e : List ℕ) (path : List (List ℕ)) (c : Carried) → List ℕ
+gtp6DPacket e path c =
+    srv6 (c .trafficClass) (innerProtocol (Entry.session e) (c .inner)) (Entry.hopLimit e) (Entry.source e) path (c .inner)
+
+-- rows 5, 7 and 8
+unfoldable pub gtp6Rows : Header → Datagram → List Row
+gtp6Rows h g =
+    row (badChain h) 5 ∷ segmentsLeftRow (segmentsRemain h) ∷ upperLayerRow (notGtpu (h .upper) g) (h .upperAt) ∷ []
+
+-- rows 14 and 15
+unfoldable pub gtp6DRows : (e : List ℕ) (path : List (List ℕ)) (inner : List ℕ) → List Row
+gtp6DRows e path inner = row (badInner (Entry.session e) inner) 14 ∷ lengthRow (srv6Payload path inner) ∷ []
+
+unfoldable pub atGtp6D : (e : List ℕ) (path : List (List ℕ)) (p : List ℕ) → Outcome
+atGtp6D e path p =
+    let g = datagram (datagramIn6 p) in
+    unless (gtp6Rows (header p) g)
+    (unless (messageRows g)
+    (unless (gPduRows (Entry.direction e) g)
+    (unless (gtp6DRows e path (carried6 p .inner)) (Sent (gtp6DPacket e path (carried6 p))))))

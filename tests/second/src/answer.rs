@@ -1,0 +1,138 @@
+//! Document 01, "Answer numbers", and the packed answer of the C interface.
+
+/// ICMPv6 Time Exceeded (RFC 4443, 3.3).
+const TIME_EXCEEDED: u8 = 3;
+/// ICMPv6 Parameter Problem (RFC 4443, 3.4).
+const PARAMETER_PROBLEM: u8 = 4;
+/// Parameter Problem code 4, SR Upper-layer Header Error (RFC 8986, 10.3).
+const SR_UPPER_LAYER_HEADER_ERROR: u8 = 4;
+/// Where Segments Left stands if the SRH follows the IPv6 header.
+const SEGMENTS_LEFT_OFFSET: u16 = 43;
+
+/// One answer: number, ICMP type, code and pointer, length.
+#[derive(Clone, Copy, Debug, PartialEq, Eq, Default)]
+pub struct Answer {
+    pub number: u8,
+    pub icmp_type: u8,
+    pub icmp_code: u8,
+    pub icmp_pointer: u16,
+    pub length: u32,
+}
+
+impl Answer {
+    pub fn sent(length: usize) -> Self {
+        Answer { length: length as u32, ..Answer::default() }
+    }
+
+    /// Number in bits 0-7, ICMP type 8-15, code 16-23, pointer 24-39, length 40-63.
+    pub fn pack(self) -> u64 {
+        u64::from(self.number)
+            | u64::from(self.icmp_type) << 8
+            | u64::from(self.icmp_code) << 16
+            | u64::from(self.icmp_pointer) << 24
+            | u64::from(self.length) << 40
+    }
+
+    pub fn unpack(packed: u64) -> Self {
+        Answer {
+            number: packed as u8,
+            icmp_type: (packed >> 8) as u8,
+            icmp_code: (packed >> 16) as u8,
+            icmp_pointer: (packed >> 24) as u16,
+            length: (packed >> 40) as u32,
+        }
+    }
+}
+
+/// Why a packet is refused; the order is that of the answer numbers.
+#[derive(Clone, Copy, Debug, PartialEq, Eq)]
+pub enum Refusal {
+    /// 1: table not sound.
+    UnsoundTable,
+    /// 2: too short, wrong version, or the length field disagrees.
+    IpHeader,
+    /// 3: IPv4 header length, checksum, fragment.
+    Ipv4Header,
+    /// 4: no entry or rule matches.
+    NoMatch,
+    /// 5: the chain of IPv6 headers.
+    HeaderChain,
+    /// 6: hop limit spent at a waypoint.
+    HopLimit,
+    /// 7: Segments Left or Last Entry.
+    SegmentsLeft,
+    /// 8 in the IPv6 call: the upper-layer header at this offset.
+    UpperLayer { offset: u16 },
+    /// 8 in the IPv4 call: dropped, no ICMP (RFC 9433, 6.7).
+    NotGtpu,
+    /// 9: UDP length.
+    Udp,
+    /// 10: GTP-U header.
+    GtpuHeader,
+    /// 11: GTP-U message type.
+    GtpuType,
+    /// 12: GTP-U extension headers.
+    GtpuExtension,
+    /// 13: no container, or the other direction.
+    Container,
+    /// 14: inner packet of an IPv4v6 session.
+    InnerVersion,
+    /// 15: length field would pass 65,535.
+    TooLong,
+    /// 16: output shorter than the result.
+    NoRoom,
+}
+
+impl Refusal {
+    pub fn answer(self) -> Answer {
+        let number = match self {
+            Refusal::UnsoundTable => 1,
+            Refusal::IpHeader => 2,
+            Refusal::Ipv4Header => 3,
+            Refusal::NoMatch => 4,
+            Refusal::HeaderChain => 5,
+            Refusal::HopLimit => 6,
+            Refusal::SegmentsLeft => 7,
+            Refusal::UpperLayer { .. } | Refusal::NotGtpu => 8,
+            Refusal::Udp => 9,
+            Refusal::GtpuHeader => 10,
+            Refusal::GtpuType => 11,
+            Refusal::GtpuExtension => 12,
+            Refusal::Container => 13,
+            Refusal::InnerVersion => 14,
+            Refusal::TooLong => 15,
+            Refusal::NoRoom => 16,
+        };
+        let (icmp_type, icmp_code, icmp_pointer) = match self {
+            Refusal::HopLimit => (TIME_EXCEEDED, 0, 0),
+            Refusal::SegmentsLeft => (PARAMETER_PROBLEM, 0, SEGMENTS_LEFT_OFFSET),
+            Refusal::UpperLayer { offset } => (PARAMETER_PROBLEM, SR_UPPER_LAYER_HEADER_ERROR, offset),
+            _ => (0, 0, 0),
+        };
+        Answer { number, icmp_type, icmp_code, icmp_pointer, length: 0 }
+    }
+}
+
+#[cfg(test)]
+mod tests {
+    use super::*;
+
+    #[test]
+    fn packs_each_part_in_its_bits() {
+        let answer = Answer { number: 8, icmp_type: 4, icmp_code: 4, icmp_pointer: 0x0828, length: 0 };
+        assert_eq!(answer.pack(), 0x08_2804_0408);
+        assert_eq!(Answer::unpack(answer.pack()), answer);
+        let sent = Answer::sent(65_575);
+        assert_eq!(sent.pack(), 65_575 << 40);
+        assert_eq!(Answer::unpack(sent.pack()), sent);
+    }
+
+    #[test]
+    fn only_rows_6_7_and_8_name_icmp() {
+        assert_eq!(Refusal::HopLimit.answer().pack(), 0x0306);
+        assert_eq!(Refusal::SegmentsLeft.answer().pack(), 0x2b00_0407);
+        assert_eq!(Refusal::UpperLayer { offset: 40 }.answer().pack(), 0x2804_0408);
+        assert_eq!(Refusal::NotGtpu.answer().pack(), 8);
+        assert_eq!(Refusal::NoRoom.answer().pack(), 16);
+    }
+}

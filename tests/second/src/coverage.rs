@@ -1,0 +1,108 @@
+//! Which answer numbers came out at which kind.
+
+use crate::generate::{self, Kind};
+use std::fmt;
+
+pub const NUMBERS: usize = 17;
+
+#[derive(Clone, Debug, Default, PartialEq, Eq)]
+pub struct Coverage {
+    counts: [[u64; NUMBERS]; 6],
+}
+
+/// A place of the table that is not as it should be.
+#[derive(Clone, Copy, Debug, PartialEq, Eq)]
+pub enum Finding {
+    /// The number can occur there and did not.
+    Gap(Kind, u8),
+    /// The number cannot occur there and did.
+    Stray(Kind, u8),
+}
+
+fn column(kind: Kind) -> usize {
+    Kind::ALL.iter().position(|&k| k == kind).unwrap_or(0)
+}
+
+impl Coverage {
+    pub fn add(&mut self, kind: Kind, number: u8) {
+        self.counts[column(kind)][usize::from(number).min(NUMBERS - 1)] += 1;
+    }
+
+    pub fn count(&self, kind: Kind, number: u8) -> u64 {
+        self.counts[column(kind)][usize::from(number)]
+    }
+
+    pub fn findings(&self) -> Vec<Finding> {
+        let mut findings = Vec::new();
+        for kind in Kind::ALL {
+            for number in 0..NUMBERS as u8 {
+                match (kind.numbers().contains(&number), self.count(kind, number)) {
+                    (true, 0) => findings.push(Finding::Gap(kind, number)),
+                    (false, 1..) => findings.push(Finding::Stray(kind, number)),
+                    _ => {}
+                }
+            }
+        }
+        findings
+    }
+}
+
+impl fmt::Display for Coverage {
+    fn fmt(&self, f: &mut fmt::Formatter<'_>) -> fmt::Result {
+        write!(f, "number")?;
+        for kind in Kind::ALL {
+            write!(f, " {:>9}", kind.name())?;
+        }
+        for number in 0..NUMBERS as u8 {
+            write!(f, "\n{number:>6}")?;
+            for kind in Kind::ALL {
+                match (self.count(kind, number), kind.numbers().contains(&number)) {
+                    (0, false) => write!(f, " {:>9}", "-")?,
+                    (0, true) => write!(f, " {:>9}", "GAP")?,
+                    (count, true) => write!(f, " {count:>9}")?,
+                    (count, false) => write!(f, " {:>9}", format!("{count}!"))?,
+                }
+            }
+        }
+        Ok(())
+    }
+}
+
+impl fmt::Display for Finding {
+    fn fmt(&self, f: &mut fmt::Formatter<'_>) -> fmt::Result {
+        match self {
+            Finding::Gap(kind, number) => write!(f, "{}: number {number} did not occur", kind.name()),
+            Finding::Stray(kind, number) => write!(f, "{}: number {number} cannot occur there and did", kind.name()),
+        }
+    }
+}
+
+/// Generates and checks the first `cases` cases of a seed.
+pub fn collect(seed: u64, cases: u64) -> Result<Coverage, String> {
+    let mut coverage = Coverage::default();
+    for index in 0..cases {
+        let case = generate::case(seed, index);
+        case.check().map_err(|why| format!("seed {seed} index {index}: {why}"))?;
+        coverage.add(case.kind, case.answer.number);
+    }
+    Ok(coverage)
+}
+
+#[cfg(test)]
+mod tests {
+    use super::*;
+
+    #[test]
+    fn gaps_and_strays_are_found() {
+        let mut coverage = Coverage::default();
+        for kind in Kind::ALL {
+            for &number in kind.numbers() {
+                coverage.add(kind, number);
+            }
+        }
+        assert_eq!(coverage.findings(), []);
+        coverage.add(Kind::E6, 15);
+        assert_eq!(coverage.findings(), [Finding::Stray(Kind::E6, 15)]);
+        assert_eq!(Coverage::default().findings().len(), 9 + 15 + 15 + 8 + 9 + 14);
+    }
+}

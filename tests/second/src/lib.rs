@@ -1,0 +1,31 @@
+//! A second implementation of the gateway rules, written from document 01
+//! and RFC 9433 alone.
+//!
+//! - [`translate`]: the two calls, [`translate_ipv6`] and [`translate_ipv4`];
+//! - [`table`]: the table octets and what makes a table sound;
+//! - [`ipv6`], [`ipv4`], [`udp`], [`gtpu`], [`args`]: what is read;
+//! - [`outgoing`]: what is written;
+//! - [`answer`]: the answer numbers and the packed answer;
+//! - [`generate`], [`coverage`], [`vectors`], [`worked`], [`trips`]: cases and checks.
+
+pub mod answer;
+pub mod args;
+pub mod coverage;
+pub mod generate;
+pub mod gtpu;
+pub mod ipv4;
+pub mod ipv6;
+pub mod outgoing;
+pub mod rng;
+pub mod table;
+pub mod translate;
+pub mod trips;
+pub mod udp;
+pub mod vectors;
+pub mod wire;
+pub mod worked;
+
+pub use answer::{Answer, Refusal};
+pub use generate::{Call, Case, Kind};
+pub use table::Table;
+pub use translate::{translate_ipv4, translate_ipv6};

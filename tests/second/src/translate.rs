@@ -1,0 +1,254 @@
+//! The two calls. The stages stand in the order of the answer numbers, so the
+//! first refusal met is the smallest number that applies.
+
+use crate::answer::{Answer, Refusal};
+use crate::args::ArgsMobSession;
+use crate::gtpu;
+use crate::ipv4::Ipv4Packet;
+use crate::ipv6::{HeaderChain, Ipv6Packet, Srh};
+use crate::outgoing::{Advanced, Gtp4Packet, Gtp6Packet, Outgoing, RoutingState, SrPacket, Tunnel};
+use crate::table::{Behaviour, Entry, Ipv4Places, Policy, Rule, Session, Table};
+use crate::udp;
+
+/// The IPv6 call: waypoint, D, Di, E6, E4. Packed answer.
+pub fn translate_ipv6(packet: &[u8], table: &[u8], out: &mut [u8]) -> u64 {
+    deliver(ipv6(packet, table, out.len()), out)
+}
+
+/// The IPv4 call: D4. Packed answer.
+pub fn translate_ipv4(packet: &[u8], table: &[u8], out: &mut [u8]) -> u64 {
+    deliver(ipv4(packet, table, out.len()), out)
+}
+
+/// A refusal changes no octet, a sent packet only its own.
+fn deliver(result: Result<Vec<u8>, Refusal>, out: &mut [u8]) -> u64 {
+    let answer = match result {
+        Ok(octets) => match out.get_mut(..octets.len()) {
+            Some(place) => {
+                place.copy_from_slice(&octets);
+                Answer::sent(octets.len())
+            }
+            None => Refusal::NoRoom.answer(),
+        },
+        Err(refusal) => refusal.answer(),
+    };
+    answer.pack()
+}
+
+fn ipv6(octets: &[u8], table: &[u8], room: usize) -> Result<Vec<u8>, Refusal> {
+    let table = Table::decode(table).map_err(|_| Refusal::UnsoundTable)?;
+    let packet = Ipv6Packet::parse(octets)?;
+    let entry = table.entry_for(packet.destination)?;
+    let chain = HeaderChain::parse(&packet)?;
+    let arriving = Arriving { octets, packet, chain, entry };
+    let outgoing = match entry.behaviour {
+        Behaviour::End => Outgoing::Advanced(arriving.end()?),
+        Behaviour::D { session, policy } => Outgoing::Sr(arriving.d(session, &table.policies[policy])?),
+        Behaviour::Di { session, policy } => Outgoing::Sr(arriving.di(session, &table.policies[policy])?),
+        Behaviour::E6 { session, args_start, source_port } => {
+            Outgoing::Gtp6(arriving.e6(session, args_start, source_port)?)
+        }
+        Behaviour::E4 { session, places, source_port } => {
+            Outgoing::Gtp4(arriving.e4(session, places, source_port)?)
+        }
+    };
+    outgoing.encode(room)
+}
+
+fn ipv4(octets: &[u8], table: &[u8], room: usize) -> Result<Vec<u8>, Refusal> {
+    let table = Table::decode(table).map_err(|_| Refusal::UnsoundTable)?;
+    let packet = Ipv4Packet::parse(octets)?;
+    packet.check_header()?;
+    let rule = table.rule_for(packet.destination)?;
+    Outgoing::Sr(d4(&packet, rule)?).encode(room)
+}
+
+/// A user packet out of its tunnel.
+struct Decapsulated<'a> {
+    args: ArgsMobSession,
+    next_header: u8,
+    inner: &'a [u8],
+}
+
+/// Rows 8 to 14.
+fn decapsulate(protocol: u8, upper: &[u8], session: Session, stray: Refusal) -> Result<Decapsulated<'_>, Refusal> {
+    let payload = udp::gtpu_payload(protocol, upper, stray)?;
+    let gtpu::GPdu { args, inner } = gtpu::parse(payload, session.direction)?;
+    let next_header = session.session_type.next_header_of(inner)?;
+    Ok(Decapsulated { args, next_header, inner })
+}
+
+/// A packet in the IPv6 call with its entry.
+struct Arriving<'a, 't> {
+    octets: &'a [u8],
+    packet: Ipv6Packet<'a>,
+    chain: HeaderChain<'a>,
+    entry: &'t Entry,
+}
+
+impl<'a> Arriving<'a, '_> {
+    /// Waypoint (RFC 8986, 4.1).
+    fn end(&self) -> Result<Advanced<'a>, Refusal> {
+        let upper_layer_error = self.chain.upper_layer_error();
+        let srh = self.chain.srh.ok_or(upper_layer_error)?;
+        let arriving = RoutingState {
+            segments_left: srh.segments_left,
+            destination: self.packet.destination,
+            hop_limit: self.packet.hop_limit,
+        };
+        let state = advance(arriving, &srh)?.ok_or(upper_layer_error)?;
+        Ok(Advanced { packet: self.octets, state })
+    }
+
+    /// End.M.GTP6.D (RFC 9433, 6.3).
+    fn d(&self, session: Session, policy: &Policy) -> Result<SrPacket<'a>, Refusal> {
+        let user = self.decapsulate(session)?;
+        Ok(self.sr_packet(policy_segments(policy, user.args), user))
+    }
+
+    /// End.M.GTP6.D.Di (RFC 9433, 5.4 and 6.4): the arriving destination is SRH[0].
+    fn di(&self, session: Session, policy: &Policy) -> Result<SrPacket<'a>, Refusal> {
+        let user = self.decapsulate(session)?;
+        let mut segments = policy_segments(policy, user.args);
+        segments.push(self.packet.destination);
+        Ok(self.sr_packet(segments, user))
+    }
+
+    /// End.M.GTP6.E (RFC 9433, 6.5).
+    fn e6(&self, session: Session, args_start: u8, source_port: u16) -> Result<Gtp6Packet<'a>, Refusal> {
+        let srh = self.chain.srh.ok_or(Refusal::HeaderChain)?;
+        if srh.segments_left != 1 || !srh.last_entry_is_held() {
+            return Err(Refusal::SegmentsLeft);
+        }
+        // Held, because Last Entry is.
+        let destination = srh.segment(0).ok_or(Refusal::SegmentsLeft)?;
+        let args = ArgsMobSession::read(self.packet.destination, args_start);
+        Ok(Gtp6Packet {
+            traffic_class: self.packet.traffic_class,
+            hop_limit: self.entry.hop_limit,
+            source: self.entry.source,
+            destination,
+            tunnel: self.tunnel(session, source_port, args)?,
+        })
+    }
+
+    /// End.M.GTP4.E (RFC 9433, 6.6).
+    fn e4(&self, session: Session, places: Ipv4Places, source_port: u16) -> Result<Gtp4Packet<'a>, Refusal> {
+        self.require_segments_left_0()?;
+        let args = ArgsMobSession::read(self.packet.destination, places.p + 4);
+        Ok(Gtp4Packet {
+            tos: self.packet.traffic_class,
+            ttl: self.entry.hop_limit,
+            source: ipv4_in(self.packet.source, places.q),
+            destination: ipv4_in(self.packet.destination, places.p),
+            tunnel: self.tunnel(session, source_port, args)?,
+        })
+    }
+
+    /// Row 7 at D, Di and E4.
+    fn require_segments_left_0(&self) -> Result<(), Refusal> {
+        match self.chain.srh {
+            Some(srh) if srh.segments_left != 0 => Err(Refusal::SegmentsLeft),
+            _ => Ok(()),
+        }
+    }
+
+    fn decapsulate(&self, session: Session) -> Result<Decapsulated<'a>, Refusal> {
+        self.require_segments_left_0()?;
+        decapsulate(self.chain.protocol, self.chain.upper, session, self.chain.upper_layer_error())
+    }
+
+    fn sr_packet(&self, segments: Vec<u128>, user: Decapsulated<'a>) -> SrPacket<'a> {
+        SrPacket {
+            traffic_class: self.packet.traffic_class,
+            hop_limit: self.entry.hop_limit,
+            source: self.entry.source,
+            destination: segments[0],
+            segments,
+            next_header: user.next_header,
+            inner: user.inner,
+        }
+    }
+
+    /// Row 8 at E6 and E4; the inner packet is not examined.
+    fn tunnel(&self, session: Session, source_port: u16, args: ArgsMobSession) -> Result<Tunnel<'a>, Refusal> {
+        if !session.session_type.admits(self.chain.protocol) {
+            return Err(self.chain.upper_layer_error());
+        }
+        Ok(Tunnel { source_port, direction: session.direction, args, inner: self.chain.upper })
+    }
+}
+
+/// One waypoint's step; `None` with SL 0 (row 8). Rows 6 and 7 for SL > 0.
+fn advance(state: RoutingState, srh: &Srh) -> Result<Option<RoutingState>, Refusal> {
+    let Some(segments_left) = state.segments_left.checked_sub(1) else {
+        return Ok(None);
+    };
+    if state.hop_limit <= 1 {
+        return Err(Refusal::HopLimit);
+    }
+    // SL > LE + 1 is segments_left > LE here.
+    if !srh.last_entry_is_held() || segments_left > srh.last_entry {
+        return Err(Refusal::SegmentsLeft);
+    }
+    let destination = srh.segment(segments_left).ok_or(Refusal::SegmentsLeft)?;
+    Ok(Some(RoutingState { segments_left, destination, hop_limit: state.hop_limit - 1 }))
+}
+
+/// The policy's SIDs in order of travel, Args in the last.
+fn policy_segments(policy: &Policy, args: ArgsMobSession) -> Vec<u128> {
+    let mut segments = policy.sids.clone();
+    if let Some(last) = segments.last_mut() {
+        *last = args.place(*last, policy.args_start);
+    }
+    segments
+}
+
+/// H.M.GTP4.D (RFC 9433, 6.7).
+fn d4<'a>(packet: &Ipv4Packet<'a>, rule: &Rule) -> Result<SrPacket<'a>, Refusal> {
+    let user = decapsulate(packet.protocol, packet.payload, rule.session, Refusal::NotGtpu)?;
+    let Ipv4Places { p, q } = rule.places;
+    let sid = user.args.place(with_ipv4(rule.sid_prefix, packet.destination, p), p + 4);
+    let source = with_ipv4(rule.source_prefix, packet.source, q);
+    let (destination, segments) = match rule.waypoints.first() {
+        None => (sid, Vec::new()),
+        Some(&first) => {
+            let mut segments = rule.waypoints.clone();
+            segments.push(sid);
+            (first, segments)
+        }
+    };
+    Ok(SrPacket {
+        traffic_class: packet.tos,
+        hop_limit: rule.hop_limit,
+        source,
+        destination,
+        segments,
+        next_header: user.next_header,
+        inner: user.inner,
+    })
+}
+
+/// An address with an IPv4 address behind a prefix of `octets` octets, 0 to 12.
+fn with_ipv4(prefix: u128, address: u32, octets: u8) -> u128 {
+    prefix | u128::from(address) << (96 - 8 * u32::from(octets))
+}
+
+/// The IPv4 address behind a prefix of `octets` octets, 0 to 12.
+fn ipv4_in(address: u128, octets: u8) -> u32 {
+    (address >> (96 - 8 * u32::from(octets))) as u32
+}
+
+#[cfg(test)]
+mod tests {
+    use super::*;
+
+    #[test]
+    fn ipv4_behind_a_prefix() {
+        assert_eq!(with_ipv4(0x2001_0db8_000d << 80, 0xc633_6407, 8), 0x2001_0db8_000d_0000_c633_6407_0000_0000);
+        for octets in 0..=12 {
+            assert_eq!(ipv4_in(with_ipv4(0, 0xc000_0201, octets), octets), 0xc000_0201);
+        }
+        assert_eq!(with_ipv4(0, 0xc000_0201, 12), 0xc000_0201);
+    }
+}

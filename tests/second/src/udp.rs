@@ -1,0 +1,34 @@
+//! UDP around GTP-U (document 01, rows 8 and 9). Checksums are not examined.
+
+use crate::answer::Refusal;
+use crate::ipv6::next_header;
+use crate::wire::Reader;
+
+pub const GTPU_PORT: u16 = 2152;
+pub const HEADER_LENGTH: usize = 8;
+
+/// The payload of a UDP datagram to the GTP-U port. Anything else is `stray`
+/// (row 8); the port is read only if 8 octets are there, fewer are row 9.
+pub fn gtpu_payload(protocol: u8, octets: &[u8], stray: Refusal) -> Result<&[u8], Refusal> {
+    if protocol != next_header::UDP {
+        return Err(stray);
+    }
+    let (port, length, payload) = read(octets).ok_or(Refusal::Udp)?;
+    if port != GTPU_PORT {
+        return Err(stray);
+    }
+    if usize::from(length) != octets.len() {
+        return Err(Refusal::Udp);
+    }
+    Ok(payload)
+}
+
+/// Destination port, length, payload.
+fn read(octets: &[u8]) -> Option<(u16, u16, &[u8])> {
+    let mut reader = Reader::new(octets);
+    let _source_port = reader.u16()?;
+    let port = reader.u16()?;
+    let length = reader.u16()?;
+    let _checksum = reader.u16()?;
+    Some((port, length, reader.rest()))
+}

@@ -1,0 +1,130 @@
+//! Cases as lines of text:
+//! `kind call number icmp_type icmp_code icmp_pointer length room packet-hex table-hex out-hex`.
+
+use crate::generate::{self, Case, Kind};
+
+/// The smallest packet that can answer 15: 65,492 inner octets at E4, fewer
+/// segments' worth less at D, Di and D4.
+const SMALLEST_TOO_LONG: usize = 65_000;
+
+fn hex(octets: &[u8]) -> String {
+    if octets.is_empty() {
+        return "-".to_string();
+    }
+    const DIGITS: [u8; 16] = *b"0123456789abcdef";
+    let mut text = String::with_capacity(2 * octets.len());
+    for octet in octets {
+        text.push(DIGITS[usize::from(octet >> 4)].into());
+        text.push(DIGITS[usize::from(octet & 15)].into());
+    }
+    text
+}
+
+/// One line without its newline.
+pub fn line(case: &Case) -> String {
+    let a = &case.answer;
+    format!(
+        "{} {} {} {} {} {} {} {} {} {} {}",
+        case.kind.name(),
+        case.call.name(),
+        a.number,
+        a.icmp_type,
+        a.icmp_code,
+        a.icmp_pointer,
+        a.length,
+        case.room,
+        hex(&case.packet),
+        hex(&case.table),
+        hex(&case.sent),
+    )
+}
+
+/// How many cases of each number are still wanted at one kind.
+struct Quota {
+    kind: Kind,
+    wanted: [u64; 17],
+}
+
+impl Quota {
+    /// About a third sent, the rest spread evenly over the other numbers.
+    fn new(kind: Kind, per_kind: u64, max_packet: usize) -> Self {
+        let mut wanted = [0; 17];
+        let possible = |number: u8| number != 0 && (number != 15 || max_packet >= SMALLEST_TOO_LONG);
+        let refusals: Vec<u8> = kind.numbers().iter().copied().filter(|&n| possible(n)).collect();
+        let sent = per_kind.div_ceil(3);
+        wanted[0] = sent;
+        let (share, extra) = ((per_kind - sent) / refusals.len() as u64, (per_kind - sent) % refusals.len() as u64);
+        for (place, number) in refusals.iter().enumerate() {
+            wanted[usize::from(*number)] = share + u64::from((place as u64) < extra);
+        }
+        Quota { kind, wanted }
+    }
+
+    fn take(&mut self, number: u8) -> bool {
+        let wanted = &mut self.wanted[usize::from(number)];
+        let taken = *wanted > 0;
+        *wanted = wanted.saturating_sub(1);
+        taken
+    }
+
+    fn left(&self) -> u64 {
+        self.wanted.iter().sum()
+    }
+}
+
+/// `per_kind` cases of each kind with their indices, from the cases of a seed
+/// in their order. An error if they do not come up within `tries` cases.
+pub fn select(seed: u64, per_kind: u64, max_packet: usize, tries: u64) -> Result<Vec<(u64, Case)>, String> {
+    let mut quotas: Vec<Quota> = Kind::ALL.iter().map(|&kind| Quota::new(kind, per_kind, max_packet)).collect();
+    let mut selected = Vec::new();
+    for index in 0..tries {
+        if quotas.iter().all(|q| q.left() == 0) {
+            break;
+        }
+        let case = generate::case(seed, index);
+        if case.packet.len() > max_packet {
+            continue;
+        }
+        let quota = quotas.iter_mut().find(|q| q.kind == case.kind);
+        if quota.is_some_and(|q| q.take(case.answer.number)) {
+            selected.push((index, case));
+        }
+    }
+    let missing: Vec<String> = quotas
+        .iter()
+        .flat_map(|q| q.wanted.iter().enumerate().map(|(number, &left)| (q.kind.name(), number, left)))
+        .filter(|&(_, _, left)| left > 0)
+        .map(|(kind, number, left)| format!("{kind} number {number}: {left} missing"))
+        .collect();
+    if !missing.is_empty() {
+        return Err(format!("not found in {tries} cases: {}", missing.join(", ")));
+    }
+    selected.sort_by_key(|(index, case)| (Kind::ALL.iter().position(|&k| k == case.kind), case.answer.number, *index));
+    Ok(selected)
+}
+
+#[cfg(test)]
+mod tests {
+    use super::*;
+
+    #[test]
+    fn quotas_add_up() {
+        for kind in Kind::ALL {
+            for per_kind in [0, 1, 2, 7, 100] {
+                for max_packet in [400, 70_000] {
+                    assert_eq!(Quota::new(kind, per_kind, max_packet).left(), per_kind);
+                }
+            }
+        }
+    }
+
+    #[test]
+    fn a_line_has_eleven_fields() {
+        for (index, case) in select(1, 20, 400, 100_000).unwrap() {
+            let line = line(&case);
+            assert_eq!(line.split(' ').count(), 11, "index {index}");
+            assert!(!line.contains("  "));
+            assert!(case.packet.len() <= 400);
+        }
+    }
+}
