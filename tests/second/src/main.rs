@@ -1,6 +1,6 @@
 //! The command `second`.
 
-use second::{coverage, generate, vectors};
+use second::{coverage, generate, trips, vectors, worked};
 use std::collections::HashMap;
 use std::io::{self, BufWriter, Write};
 use std::process::ExitCode;
@@ -17,6 +17,8 @@ usage:
       packet-hex table-hex out-hex; '-' is an empty field, '#' begins a comment
   second show --seed N --index I
       print case I of a seed as a line of the same form
+  second check
+      read such lines from standard input and run them here
   second worked
       run the worked packets of document 01
   second trips --seed N --cases M
@@ -113,6 +115,53 @@ fn run(words: &[String], out: &mut impl Write) -> Result<(), Failure> {
             let case = generate::case(seed, index);
             writeln!(out, "# seed {seed} index {index}: {}", case.notes.join("; "))?;
             writeln!(out, "{}", vectors::line(&case))?;
+        }
+        "check" => {
+            Options::parse(rest, &[])?;
+            let mut checked = 0;
+            for (number, line) in (1..).zip(io::stdin().lines()) {
+                let line = line?;
+                if line.is_empty() || line.starts_with('#') {
+                    continue;
+                }
+                let fail = |why| Failure::Check(format!("line {number}: {why}"));
+                vectors::parse(&line).and_then(|case| case.check()).map_err(fail)?;
+                checked += 1;
+            }
+            writeln!(out, "{checked} lines as they should be")?;
+        }
+        "worked" => {
+            Options::parse(rest, &[])?;
+            let lines = worked::lines();
+            for line in &lines {
+                match &line.result {
+                    Ok(()) => writeln!(out, "ok     {}", line.words)?,
+                    Err(why) => writeln!(out, "FAILED {}: {why}", line.words)?,
+                }
+            }
+            let failed = lines.iter().filter(|line| line.result.is_err()).count();
+            writeln!(out, "{} worked packets, {failed} failed", lines.len())?;
+            if failed > 0 {
+                return Err(Failure::Check(format!("{failed} worked packets failed")));
+            }
+        }
+        "trips" => {
+            let options = Options::parse(rest, &["--seed", "--cases"])?;
+            let (seed, cases) = (options.get("--seed")?, options.get("--cases")?);
+            let tally = trips::run(seed, cases).map_err(Failure::Check)?;
+            write!(out, "waypoints          ")?;
+            for waypoints in 0..tally.arrived[0].len() {
+                write!(out, " {waypoints:>6}")?;
+            }
+            for (name, family) in [("Di to E6", 0), ("D4 to E4", 1)] {
+                for (what, counts) in [("arrived", tally.arrived[family]), ("refused", tally.ended_early[family])] {
+                    write!(out, "\n{name}, {what}: ")?;
+                    for count in counts {
+                        write!(out, " {count:>6}")?;
+                    }
+                }
+            }
+            writeln!(out, "\nseed {seed}: {cases} trips and their second trips as they should be")?;
         }
         other => return Err(Failure::Usage(format!("unknown command {other}"))),
     }

@@ -633,10 +633,10 @@ mod tests {
             assert_eq!(Table::decode(&octets), Err(why), "octet {at} as {value}");
         }
         // Not used by the kind, or spare.
-        let unused = [1, 8, 15, e6 + 5, e6 + 7, e6 + 8, e6 + 12, e6 + 48, e4 + 5, e4 + 6, d + 6, d + 7];
-        let unused = unused.iter().chain(&[d + 8, d + 10, end + 3, end + 4, end + 5, end + 6, end + 7]);
-        let unused = unused.chain(&[end + 8, rule + 12, rule + 80, policy + 3, policy + 32, policy + 144]);
-        for &at in unused {
+        let of_entries = [e6 + 5, e6 + 7, e6 + 8, e6 + 12, e6 + 48, e4 + 5, e4 + 6, d + 6, d + 7, d + 8, d + 10];
+        let of_end = [end + 3, end + 4, end + 5, end + 6, end + 7, end + 8, end + 10];
+        let others = [1, 8, 15, rule + 12, rule + 80, policy + 3, policy + 32, policy + 144];
+        for at in of_entries.into_iter().chain(of_end).chain(others) {
             let mut octets = good.clone();
             octets[at] = 255;
             assert_eq!(Table::decode(&octets), Ok(sample()), "octet {at}");

@@ -1,11 +1,15 @@
 //! Cases as lines of text:
 //! `kind call number icmp_type icmp_code icmp_pointer length room packet-hex table-hex out-hex`.
 
-use crate::generate::{self, Case, Kind};
+use crate::answer::Answer;
+use crate::generate::{self, Call, Case, Kind};
 
 /// The smallest packet that can answer 15: 65,492 inner octets at E4, fewer
 /// segments' worth less at D, Di and D4.
 const SMALLEST_TOO_LONG: usize = 65_000;
+
+/// More room than any case has.
+const LARGEST_ROOM: usize = 1 << 24;
 
 fn hex(octets: &[u8]) -> String {
     if octets.is_empty() {
@@ -37,6 +41,51 @@ pub fn line(case: &Case) -> String {
         hex(&case.table),
         hex(&case.sent),
     )
+}
+
+fn unhex(text: &str) -> Option<Vec<u8>> {
+    if text == "-" {
+        return Some(Vec::new());
+    }
+    let digits: Vec<u8> = text.chars().map(|c| c.to_digit(16).map(|d| d as u8)).collect::<Option<_>>()?;
+    let pairs = digits.chunks_exact(2);
+    pairs.remainder().is_empty().then(|| pairs.map(|pair| pair[0] << 4 | pair[1]).collect())
+}
+
+/// The case of a line; its notes are lost.
+pub fn parse(line: &str) -> Result<Case, String> {
+    let fields: Vec<&str> = line.split(' ').collect();
+    let &[kind, call, number, icmp_type, icmp_code, icmp_pointer, length, room, packet, table, sent] = &fields[..] else {
+        return Err(format!("{} fields, not 11", fields.len()));
+    };
+    fn number_of<T: std::str::FromStr>(text: &str) -> Result<T, String> {
+        text.parse().map_err(|_| format!("{text} is not a number of its field"))
+    }
+    let room: usize = number_of(room)?;
+    if room > LARGEST_ROOM {
+        return Err(format!("room {room} is more than {LARGEST_ROOM}"));
+    }
+    let octets_of = |text: &str| unhex(text).ok_or_else(|| format!("{text} is not hex"));
+    let (length, sent): (u32, Vec<u8>) = (number_of(length)?, octets_of(sent)?);
+    if sent.len() != length as usize || sent.len() > room {
+        return Err(format!("{} octets sent, length {length}, room {room}", sent.len()));
+    }
+    Ok(Case {
+        kind: Kind::from_name(kind).ok_or_else(|| format!("{kind} is no kind"))?,
+        call: Call::from_name(call).ok_or_else(|| format!("{call} is no call"))?,
+        packet: octets_of(packet)?,
+        table: octets_of(table)?,
+        room,
+        answer: Answer {
+            number: number_of(number)?,
+            icmp_type: number_of(icmp_type)?,
+            icmp_code: number_of(icmp_code)?,
+            icmp_pointer: number_of(icmp_pointer)?,
+            length,
+        },
+        sent,
+        notes: Vec::new(),
+    })
 }
 
 /// How many cases of each number are still wanted at one kind.
@@ -119,12 +168,21 @@ mod tests {
     }
 
     #[test]
+    fn wrong_lines() {
+        for line in ["", "D", "X ipv6 0 0 0 0 0 0 - - -", "D ipv6 0 0 0 0 0 0 0 - -", "D ipv6 256 0 0 0 0 0 - - -"] {
+            assert!(parse(line).is_err(), "{line}");
+        }
+        assert!(parse("D ipv6 1 0 0 0 0 0 - - -").is_ok());
+    }
+
+    #[test]
     fn a_line_has_eleven_fields() {
         for (index, case) in select(1, 20, 400, 100_000).unwrap() {
             let line = line(&case);
             assert_eq!(line.split(' ').count(), 11, "index {index}");
             assert!(!line.contains("  "));
             assert!(case.packet.len() <= 400);
+            assert_eq!(parse(&line), Ok(Case { notes: Vec::new(), ..case }));
         }
     }
 }

@@ -87,7 +87,7 @@ fn ip_part(rng: &mut Rng, draft: &mut Draft) -> Option<&'static str> {
 fn srh_part(rng: &mut Rng, draft: &mut Draft) -> Option<&'static str> {
     let choice = rng.below(12);
     let header = draft.v6()?;
-    if choice == 0 {
+    if choice == 0 || header.srh.is_none() && choice < 6 {
         if header.srh.take().is_some() {
             return Some("SRH removed");
         }
@@ -163,7 +163,7 @@ fn upper_part(rng: &mut Rng, draft: &mut Draft) -> Option<&'static str> {
 
 fn gtpu_part(rng: &mut Rng, draft: &mut Draft) -> Option<&'static str> {
     let gtpu = draft.gtpu()?;
-    Some(match rng.below(20) {
+    Some(match rng.below(23) {
         0 => {
             gtpu.flags = rng.u8();
             "GTP-U flags"
@@ -244,7 +244,7 @@ fn gtpu_part(rng: &mut Rng, draft: &mut Draft) -> Option<&'static str> {
             gtpu.destination_port = rng.pick(&[2151, 2153, 2123, 0x6808, 0, 0xffff, 2152 ^ 0x100]);
             "destination port"
         }
-        18 => {
+        18 | 19 => {
             gtpu.inner.clear();
             "inner empty"
         }

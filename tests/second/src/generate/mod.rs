@@ -28,11 +28,20 @@ impl Call {
         }
     }
 
+    pub fn from_name(name: &str) -> Option<Call> {
+        [Call::Ipv6, Call::Ipv4].into_iter().find(|call| call.name() == name)
+    }
+
     pub fn run(self, packet: &[u8], table: &[u8], out: &mut [u8]) -> Answer {
-        Answer::unpack(match self {
-            Call::Ipv6 => translate_ipv6(packet, table, out),
-            Call::Ipv4 => translate_ipv4(packet, table, out),
-        })
+        Answer::unpack(translate(self, packet, table, out))
+    }
+}
+
+/// Either call of this implementation; packed answer.
+pub fn translate(call: Call, packet: &[u8], table: &[u8], out: &mut [u8]) -> u64 {
+    match call {
+        Call::Ipv6 => translate_ipv6(packet, table, out),
+        Call::Ipv4 => translate_ipv4(packet, table, out),
     }
 }
 
@@ -58,6 +67,10 @@ impl Kind {
             Kind::E4 => "E4",
             Kind::D4 => "D4",
         }
+    }
+
+    pub fn from_name(name: &str) -> Option<Kind> {
+        Kind::ALL.into_iter().find(|kind| kind.name() == name)
     }
 
     pub fn call(self) -> Call {
@@ -118,17 +131,23 @@ impl Case {
     /// Runs the case over an output of other contents and checks that the answer
     /// and the octets sent are the same and that no other octet changed.
     pub fn check(&self) -> Result<(), String> {
+        self.check_by(translate)
+    }
+
+    /// The same with another implementation, which gives the packed answer.
+    pub fn check_by(&self, run: impl FnOnce(Call, &[u8], &[u8], &mut [u8]) -> u64) -> Result<(), String> {
         let before: Vec<u8> = (0..self.room).map(|i| (i as u8).wrapping_mul(31) ^ 0xa5).collect();
         let mut out = before.clone();
-        let answer = self.call.run(&self.packet, &self.table, &mut out);
+        let packed = run(self.call, &self.packet, &self.table, &mut out);
+        let answer = Answer::unpack(packed);
         if answer != self.answer {
-            return Err(format!("answer {answer:?} is not {:?}", self.answer));
+            return Err(format!("answer {answer:?}, not {:?}", self.answer));
         }
-        let length = answer.length as usize;
-        if out[..length] != self.sent[..] {
-            return Err("the octets sent depend on the output's contents".to_string());
+        let (sent, rest) = out.split_at(self.sent.len());
+        if let Some(at) = sent.iter().zip(&self.sent).position(|(got, wanted)| got != wanted) {
+            return Err(format!("octet {at} sent is {:02x}, not {:02x}", sent[at], self.sent[at]));
         }
-        if out[length..] != before[length..] {
+        if rest != &before[self.sent.len()..] {
             return Err("an octet outside the packet sent was changed".to_string());
         }
         Ok(())
@@ -198,6 +217,11 @@ pub fn case(seed: u64, index: u64) -> Case {
     let answer = kind.call().run(&packet, &table_octets, &mut whole);
     let room = choose_room(rng, &answer, packet.len());
     Case::new(kind, packet, table_octets, room, notes)
+}
+
+/// All cases of a seed in the order of their indices.
+pub fn cases(seed: u64) -> impl Iterator<Item = Case> {
+    (0..).map(move |index| case(seed, index))
 }
 
 /// Mostly room enough, and every room around the exact result length.
