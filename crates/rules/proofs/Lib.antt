@@ -1,4 +1,8 @@
 pub mod Windows
+pub mod Conditions
+pub mod Prefixes
+pub mod Longest
+pub mod Tables
 pub mod Rows
 pub mod Reading
 pub mod Waypoints
@@ -6,3 +10,8 @@ pub mod Trips
 pub mod Entries
 pub mod Passing
 pub mod Sids
+pub mod FarE6
+pub mod Messages
+pub mod NearGtp6
+pub mod Sessions
+pub mod Paths

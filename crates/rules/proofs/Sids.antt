@@ -54,6 +54,6 @@ module _ (sid : List ℕ) (start : ℕ) (x : Args) (hs : length sid ≡ 16) (hb 
   withArgs-before k n h =
       window-same (take (start / 8) sid ++ (argsOctets x ++ drop (start / 8 + 5) sid)) sid k k n
       (λ i l.
-          let b : k + i < start / 8 = omega arith in
-          List·getD-append (take (start / 8) sid) (argsOctets x ++ drop (start / 8 + 5) sid) 0 (k + i) (rw front-length b)
-          ∙ getD-take (start / 8) sid (k + i) 0 b)
+      let b : k + i < start / 8 = omega arith in
+      List·getD-append (take (start / 8) sid) (argsOctets x ++ drop (start / 8 + 5) sid) 0 (k + i) (rw front-length b)
+      ∙ getD-take (start / 8) sid (k + i) 0 b)

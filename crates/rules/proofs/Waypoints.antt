@@ -128,8 +128,12 @@ module _ (class upper hop : ℕ) (source : List ℕ) (held path : List (List ℕ
   way-inner =
       let s = srh upper (length path - 1) held inner in
       let e : 48 + 8 * (2 * length held) ≡ 40 + (8 + 16 * length held) = omega arith in
-      rw (way-header, e, ipv6-drop class (srv6Payload held inner) routingHeader hop source (getD path 0 []) s (w .from) way-first (8 + 16 * length held)
-         , ← (drop-drop (16 * length held) 8 s))
+      rw (
+        way-header,
+        e,
+        ipv6-drop class (srv6Payload held inner) routingHeader hop source (getD path 0 []) s (w .from) way-first (8 + 16 * length held),
+        ← (drop-drop (16 * length held) 8 s),
+      )
       (drop-segments held inner (w .through))
 
   -- no row applies at a waypoint while a segment is left

@@ -1,0 +1,155 @@
+-- The call at D and Di: what a packet that is sent on tells, and what becomes there of the packet that E6 wrote.
+use mathlib.Core.Path.{_≡_, refl, sym, ap, _∙_}
+use mathlib.Core.Bool.{Bool, true, false, cond}
+use mathlib.Core.List.{List, [], _∷_, _++_}
+use Prim.Native.Nat.{ℕ, zero, suc, _+_, _-_, _*_, _/_, _%_, _≤_, _<_}
+use native.Mathlib.Omega.{arith}
+use lib.Dec.{eqb, leb}
+use lib.ListN.{length, drop}
+use borrow.Author.Tests.{le-leb}
+use Rattle.rules.specs.Octets.{octet, Octets}
+use Rattle.rules.specs.Assigned.{udpProtocol, downlink}
+use Rattle.rules.specs.Entry as Entry
+use Rattle.rules.specs.Ipv6 as Ipv6
+use Rattle.rules.specs.Gtpu as Gtpu
+use Rattle.rules.specs.Gtpu.{datagramOctets}
+use Rattle.rules.specs.Answer.{Outcome, Sent, unless}
+use Rattle.rules.specs.Header.{header, malformed}
+use Rattle.rules.specs.Datagram.{datagram, messageRows, gPduRows}
+use Rattle.rules.specs.Carried.{Carried, carriedBy, carried6, datagramIn6}
+use Rattle.rules.specs.Gtp6D.{gtp6DPacket, gtp6Rows, gtp6DRows, atGtp6D}
+use Rattle.rules.specs.E6.{e6Packet, e6Payload}
+use Rattle.rules.specs.declared.Header.{Header}
+use Rattle.rules.proofs.Windows.{window-length}
+use Rattle.rules.proofs.Rows.{Clear, None, clear, read, unless-none, unless-sent}
+use Rattle.rules.proofs.Reading.{ipv6-drop, ipv6-header, ipv6-destination, ipv6-trafficClass}
+use Rattle.rules.proofs.Sids.{Fits}
+use Rattle.rules.proofs.FarE6.{Valid, datagram-length}
+use Rattle.rules.proofs.Messages.{datagram-back, carriedBy-back, carriedBy-fits, carriedBy-quiet}
+
+-- No row applied: to the IPv6 packet, to the datagram in it, to what is to be sent.
+pub record Passed (e : List ℕ) (path : List (List ℕ)) (p : List ℕ) : Type 0 where
+  pub front : Clear (malformed (header p))
+  pub tunnel : None (gtp6Rows (header p) (datagram (datagramIn6 p)))
+  pub message : None (messageRows (datagram (datagramIn6 p)))
+  pub gPdu : None (gPduRows (Entry.direction e) (datagram (datagramIn6 p)))
+  pub last : None (gtp6DRows e path (carried6 p .inner))
+
+module _ (e : List ℕ) (path : List (List ℕ)) (p : List ℕ) where
+  last-step : Outcome
+  last-step = unless (gtp6DRows e path (carried6 p .inner)) (Sent (gtp6DPacket e path (carried6 p)))
+
+  gPdu-step : Outcome
+  gPdu-step = unless (gPduRows (Entry.direction e) (datagram (datagramIn6 p))) last-step
+
+  message-step : Outcome
+  message-step = unless (messageRows (datagram (datagramIn6 p))) gPdu-step
+
+  pub sent-passed : (x : List ℕ) → Clear (malformed (header p)) → atGtp6D e path p ≡ Sent x → Passed e path p × (gtp6DPacket e path (carried6 p) ≡ x)
+  unfolding atGtp6D last-step gPdu-step message-step
+  sent-passed x front h =
+      let (n₁, k₁) = unless-sent (gtp6Rows (header p) (datagram (datagramIn6 p))) message-step x h in
+      let (n₂, k₂) = unless-sent (messageRows (datagram (datagramIn6 p))) gPdu-step x k₁ in
+      let (n₃, k₃) = unless-sent (gPduRows (Entry.direction e) (datagram (datagramIn6 p))) last-step x k₂ in
+      let (n₄, k₄) = unless-sent (gtp6DRows e path (carried6 p .inner)) (Sent (gtp6DPacket e path (carried6 p))) x k₃ in
+      (record { front = front; tunnel = n₁; message = n₂; gPdu = n₃; last = n₄ }, cc)
+
+  pub passed-sent : Passed e path p → atGtp6D e path p ≡ Sent (gtp6DPacket e path (carried6 p))
+  unfolding atGtp6D last-step gPdu-step message-step
+  passed-sent n =
+      unless-none (gtp6Rows (header p) (datagram (datagramIn6 p))) message-step (n .tunnel)
+      ∙ unless-none (messageRows (datagram (datagramIn6 p))) gPdu-step (n .message)
+      ∙ unless-none (gPduRows (Entry.direction e) (datagram (datagramIn6 p))) last-step (n .gPdu)
+      ∙ unless-none (gtp6DRows e path (carried6 p .inner)) (Sent (gtp6DPacket e path (carried6 p))) (n .last)
+
+  -- in uplink R is 0
+  pub passed-quiet : Passed e path p → cond (eqb (Entry.direction e) downlink) 0 (carried6 p .args .reflective) ≡ 0
+  unfolding carried6 gPduRows datagram
+  passed-quiet n = carriedBy-quiet (Ipv6.trafficClass p) [] (Ipv6.destination p) (datagramIn6 p) (Entry.direction e) (omega (read, n .gPdu))
+
+-- what was read
+pub carried6-valid : (p : List ℕ) → Octets p → Valid 16 (carried6 p)
+unfolding carried6 carriedBy
+carried6-valid p o = record {
+  octet = omega (arith, o 1);
+  to = window-length p 24 16;
+  args = carriedBy-fits (Ipv6.trafficClass p) [] (Ipv6.destination p) (datagramIn6 p);
+}
+
+pub carried6-source : (p : List ℕ) → carried6 p .source ≡ []
+unfolding carried6 carriedBy
+carried6-source p = refl
+
+pub carried6-destination : (p : List ℕ) → carried6 p .destination ≡ Ipv6.destination p
+unfolding carried6 carriedBy
+carried6-destination p = refl
+
+-- What E6 writes is read back at D and Di.
+module _ (f : List ℕ) (c : Carried) (v : Valid 16 c) (none : c .source ≡ []) where
+  rest : List ℕ
+  rest = datagramOctets (Entry.sourcePort f) (Entry.direction f) (c .args) (c .inner)
+
+  back-header : header (e6Packet f c) ≡ record {
+    size = 64 + length (c .inner);
+    version = 6;
+    trafficClass = c .trafficClass;
+    payloadLength = e6Payload (c .inner);
+    nextHeader = udpProtocol;
+    hopLimit = Entry.hopLimit f;
+    units = octet rest 1;
+    routingType = octet rest 2;
+    segmentsLeft = octet rest 3;
+    lastEntry = octet rest 4;
+    upper = udpProtocol;
+    upperAt = 40;
+  }
+  unfolding e6Packet rest
+  back-header =
+      let l : 40 + length rest ≡ 64 + length (c .inner) = rw (datagram-length (Entry.sourcePort f) (Entry.direction f) (c .args) (c .inner) (v .args)) (omega arith) in
+      ipv6-header (c .trafficClass) (e6Payload (c .inner)) udpProtocol (Entry.hopLimit f) (Entry.source f) (c .destination) rest (window-length f 32 16) (v .to) (v .octet)
+      ∙ (λ k. record {
+        size = l k;
+        version = 6;
+        trafficClass = c .trafficClass;
+        payloadLength = e6Payload (c .inner);
+        nextHeader = udpProtocol;
+        hopLimit = Entry.hopLimit f;
+        units = octet rest 1;
+        routingType = octet rest 2;
+        segmentsLeft = octet rest 3;
+        lastEntry = octet rest 4;
+        upper = udpProtocol;
+        upperAt = 40;
+      })
+
+  pub back-datagram : datagramIn6 (e6Packet f c) ≡ datagramOctets (Entry.sourcePort f) (Entry.direction f) (c .args) (c .inner)
+  unfolding e6Packet rest
+  back-datagram = rw back-header (ipv6-drop (c .trafficClass) (e6Payload (c .inner)) udpProtocol (Entry.hopLimit f) (Entry.source f) (c .destination) rest (window-length f 32 16) (v .to) 0)
+
+  pub back-destination : Ipv6.destination (e6Packet f c) ≡ c .destination
+  unfolding e6Packet rest
+  back-destination = ipv6-destination (c .trafficClass) (e6Payload (c .inner)) udpProtocol (Entry.hopLimit f) (Entry.source f) (c .destination) rest (window-length f 32 16) (v .to)
+
+  back-class : Ipv6.trafficClass (e6Packet f c) ≡ c .trafficClass
+  unfolding e6Packet rest
+  back-class = ipv6-trafficClass (c .trafficClass) (e6Payload (c .inner)) udpProtocol (Entry.hopLimit f) (Entry.source f) (c .destination) rest (window-length f 32 16) (v .to) (v .octet)
+
+  pub back-values : cond (eqb (Entry.direction f) downlink) 0 (c .args .reflective) ≡ 0 → carried6 (e6Packet f c) ≡ c
+  unfolding carried6
+  back-values quiet =
+      (λ k. carriedBy (back-class k) (sym none k) (back-destination k) (back-datagram k))
+      ∙ carriedBy-back (Entry.sourcePort f) (Entry.direction f) c (v .args) quiet
+
+  -- no row applies to it there
+  pub back-passed : (e : List ℕ) (path : List (List ℕ)) → Entry.direction f ≡ Entry.direction e → cond (eqb (Entry.direction f) downlink) 0 (c .args .reflective) ≡ 0
+      → None (gtp6DRows e path (c .inner)) → Passed e path (e6Packet f c)
+  unfolding gtp6Rows messageRows gPduRows
+  back-passed e path hd quiet n =
+      let g = ap datagram back-datagram ∙ datagram-back (Entry.sourcePort f) (Entry.direction f) (c .args) (c .inner) (v .args) in
+      record {
+        front = rw back-header (omega clear);
+        tunnel = rw (g, back-header, le-leb 8 (24 + length (c .inner)) (omega arith)) (omega clear);
+        message = rw g (omega clear);
+        gPdu = rw (g, hd) (omega clear);
+        last = rw (back-values quiet) n;
+      }

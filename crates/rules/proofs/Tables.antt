@@ -1,0 +1,162 @@
+-- What a sound table says of the record that a match finds.
+use mathlib.Core.Path.{_≡_}
+use mathlib.Core.Bool.{true}
+use mathlib.Core.List.{List}
+use Prim.Native.Nat.{ℕ, _*_, _%_, _≤_, _<_}
+use borrow.Author.Tests.{leb-true, ltb-true, eqb-true}
+use Rattle.rules.specs.Assigned.{endMGtp6D, endMGtp6DDi, endMGtp6E, endMGtp4E}
+use Rattle.rules.specs.Table.{entries, policies, entryAt, ruleAt, policyAt}
+use Rattle.rules.specs.Entry as Entry
+use Rattle.rules.specs.Rule as Rule
+use Rattle.rules.specs.Policy as Policy
+use Rattle.rules.specs.Match.{matchEntry, matchRule}
+use Rattle.rules.specs.Sound.{directionKnown, sessionKnown, startWithin, usesSession, usesPolicy, usesStart, usesPlaces, entrySound, ruleSound, policySound, soundWithin}
+use Rattle.rules.specs.declared.Found.the-variants.{At}
+use Rattle.rules.proofs.Conditions.{conjunct, where-used, sound-parts}
+use Rattle.rules.proofs.Longest.{matched-entry, matched-rule}
+
+-- AN ENTRY, A RULE, A POLICY THAT IS SOUND
+
+-- an entry of any behaviour
+pub record SoundEntry (e : List ℕ) : Type 0 where
+  pub bits : Entry.prefixLength e ≤ 128
+  pub hopLimit : 1 ≤ Entry.hopLimit e
+
+pub record SoundPolicy (y : List ℕ) : Type 0 where
+  pub least : 1 ≤ Policy.sidCount y
+  pub most : Policy.sidCount y ≤ 8
+  pub start : Policy.start y ≤ 88
+  pub whole : Policy.start y % 8 ≡ 0
+
+-- an entry of D or Di, and the policy that it names
+pub record SoundGtp6D (t e : List ℕ) : Type 0 where
+  pub direction : directionKnown (Entry.direction e) ≡ true
+  pub session : sessionKnown (Entry.session e) ≡ true
+  pub named : Entry.policy e < policies t
+  pub policy : SoundPolicy (policyAt t (Entry.policy e))
+
+pub record SoundE6 (e : List ℕ) : Type 0 where
+  pub direction : directionKnown (Entry.direction e) ≡ true
+  pub session : sessionKnown (Entry.session e) ≡ true
+  pub start : Entry.start e ≤ 88
+  pub whole : Entry.start e % 8 ≡ 0
+  pub before : Entry.prefixLength e ≤ Entry.start e
+
+pub record SoundE4 (e : List ℕ) : Type 0 where
+  pub direction : directionKnown (Entry.direction e) ≡ true
+  pub session : sessionKnown (Entry.session e) ≡ true
+  pub p : Entry.p e ≤ 7
+  pub q : Entry.q e ≤ 12
+  pub before : Entry.prefixLength e ≤ 8 * Entry.p e
+
+pub record SoundRule (r : List ℕ) : Type 0 where
+  pub bits : Rule.prefixLength r ≤ 32
+  pub hopLimit : 1 ≤ Rule.hopLimit r
+  pub direction : directionKnown (Rule.direction r) ≡ true
+  pub session : sessionKnown (Rule.session r) ≡ true
+  pub p : Rule.p r ≤ 7
+  pub q : Rule.q r ≤ 12
+  pub waypoints : Rule.waypointCount r ≤ 7
+
+-- FROM THEIR CONDITIONS
+
+module _ (policies : ℕ) (e : List ℕ) (h : entrySound policies e ≡ true) where
+  pub sound-entry : SoundEntry e
+  unfolding entrySound
+  sound-entry = record { bits = leb-true _ _ (search conjunct depth 20); hopLimit = leb-true _ _ (search conjunct depth 20) }
+
+  sound-direction : usesSession e ≡ true → directionKnown (Entry.direction e) ≡ true
+  unfolding entrySound
+  sound-direction u = where-used (usesSession e) _ (search conjunct depth 20) u
+
+  sound-session : usesSession e ≡ true → sessionKnown (Entry.session e) ≡ true
+  unfolding entrySound
+  sound-session u = where-used (usesSession e) _ (search conjunct depth 20) u
+
+  sound-named : usesPolicy e ≡ true → Entry.policy e < policies
+  unfolding entrySound
+  sound-named u = ltb-true _ _ (where-used (usesPolicy e) _ (search conjunct depth 20) u)
+
+  pub sound-e6 : Entry.behaviour e ≡ endMGtp6E → SoundE6 e
+  unfolding entrySound
+  sound-e6 b =
+      let s : startWithin (Entry.start e) ≡ true = where-used (usesStart e) _ (search conjunct depth 20) (rw b) in
+      record {
+        direction = sound-direction (rw b);
+        session = sound-session (rw b);
+        start = leb-true _ _ (search (conjunct, s));
+        whole = eqb-true _ _ (search (conjunct, s));
+        before = leb-true _ _ (where-used (usesStart e) _ (search conjunct depth 20) (rw b));
+      }
+
+  pub sound-e4 : Entry.behaviour e ≡ endMGtp4E → SoundE4 e
+  unfolding entrySound
+  sound-e4 b =
+      record {
+        direction = sound-direction (rw b);
+        session = sound-session (rw b);
+        p = leb-true _ _ (where-used (usesPlaces e) _ (search conjunct depth 20) (rw b));
+        q = leb-true _ _ (where-used (usesPlaces e) _ (search conjunct depth 20) (rw b));
+        before = leb-true _ _ (where-used (usesPlaces e) _ (search conjunct depth 20) (rw b));
+      }
+
+pub sound-policy : (y : List ℕ) → policySound y ≡ true → SoundPolicy y
+unfolding policySound
+sound-policy y h =
+    record {
+      least = leb-true _ _ (search conjunct);
+      most = leb-true _ _ (search conjunct);
+      start = leb-true _ _ (search conjunct);
+      whole = eqb-true _ _ (search conjunct);
+    }
+
+pub sound-rule : (r : List ℕ) → ruleSound r ≡ true → SoundRule r
+unfolding ruleSound
+sound-rule r h =
+    record {
+      bits = leb-true _ _ (search conjunct depth 20);
+      hopLimit = leb-true _ _ (search conjunct depth 20);
+      direction = search conjunct depth 20;
+      session = search conjunct depth 20;
+      p = leb-true _ _ (search conjunct depth 20);
+      q = leb-true _ _ (search conjunct depth 20);
+      waypoints = leb-true _ _ (search conjunct depth 20);
+    }
+
+-- THE RECORD THAT IS FOUND
+
+module _ (limit : ℕ) (t a : List ℕ) (i : ℕ) (s : soundWithin limit t ≡ true) (m : matchEntry t a ≡ At i) where
+  pub found-below : i < entries t
+  found-below = matched-entry t a i m .below
+
+  pub found-entry : entrySound (policies t) (entryAt t i) ≡ true
+  found-entry = sound-parts limit t s .entry i found-below
+
+  pub found-sound : SoundEntry (entryAt t i)
+  found-sound = sound-entry (policies t) (entryAt t i) found-entry
+
+  -- D and Di
+  found-gtp6d : usesSession (entryAt t i) ≡ true → usesPolicy (entryAt t i) ≡ true → SoundGtp6D t (entryAt t i)
+  found-gtp6d u n =
+      let l : Entry.policy (entryAt t i) < policies t = sound-named (policies t) (entryAt t i) found-entry n in
+      record {
+        direction = sound-direction (policies t) (entryAt t i) found-entry u;
+        session = sound-session (policies t) (entryAt t i) found-entry u;
+        named = l;
+        policy = sound-policy (policyAt t (Entry.policy (entryAt t i))) (sound-parts limit t s .policy (Entry.policy (entryAt t i)) l);
+      }
+
+  pub found-d : Entry.behaviour (entryAt t i) ≡ endMGtp6D → SoundGtp6D t (entryAt t i)
+  found-d b = found-gtp6d (rw b) (rw b)
+
+  pub found-di : Entry.behaviour (entryAt t i) ≡ endMGtp6DDi → SoundGtp6D t (entryAt t i)
+  found-di b = found-gtp6d (rw b) (rw b)
+
+  pub found-e6 : Entry.behaviour (entryAt t i) ≡ endMGtp6E → SoundE6 (entryAt t i)
+  found-e6 b = sound-e6 (policies t) (entryAt t i) found-entry b
+
+  pub found-e4 : Entry.behaviour (entryAt t i) ≡ endMGtp4E → SoundE4 (entryAt t i)
+  found-e4 b = sound-e4 (policies t) (entryAt t i) found-entry b
+
+pub found-rule : (limit : ℕ) (t a : List ℕ) (k : ℕ) → soundWithin limit t ≡ true → matchRule t a ≡ At k → SoundRule (ruleAt t k)
+found-rule limit t a k s m = sound-rule (ruleAt t k) (sound-parts limit t s .rule k (matched-rule t a k m .below))
