@@ -47,19 +47,19 @@ e6-length e c v =
     (datagramOctets (Entry.sourcePort e) (Entry.direction e) (c .args) (c .inner)) (window-length e 32 16) (v .to)
     ∙ rw (datagram-length (Entry.sourcePort e) (Entry.direction e) (c .args) (c .inner) (v .args)) (omega arith)
 
-module _ (e : List ℕ) (upper hop : ℕ) (source : List ℕ) (pre : List (List ℕ)) (sid : List ℕ) (c : Carried)
-    (hs : length sid ≡ 16) (hb : Entry.start e ≤ 88) (none : c .source ≡ []) (v : Valid 16 c)
-    (w : Way (c .trafficClass) upper hop source (pre ++ c .destination ∷ []) (withArgs sid (Entry.start e) (c .args) ∷ c .destination ∷ []) (c .inner)) where
-  pub e6-reads : e6Carried e (onTheWay (c .trafficClass) upper hop source (pre ++ c .destination ∷ []) (withArgs sid (Entry.start e) (c .args) ∷ c .destination ∷ []) (c .inner)) ≡ c
+module _ (e : List ℕ) (upper hop : ℕ) (source : List ℕ) (pre : List (List ℕ)) (sid : List ℕ) (start : ℕ) (c : Carried)
+    (hs : length sid ≡ 16) (he : Entry.start e ≡ start) (hb : start ≤ 88) (none : c .source ≡ []) (v : Valid 16 c)
+    (w : Way (c .trafficClass) upper hop source (pre ++ c .destination ∷ []) (withArgs sid start (c .args) ∷ c .destination ∷ []) (c .inner)) where
+  pub e6-reads : e6Carried e (onTheWay (c .trafficClass) upper hop source (pre ++ c .destination ∷ []) (withArgs sid start (c .args) ∷ c .destination ∷ []) (c .inner)) ≡ c
   unfolding e6Carried
   e6-reads =
       let held = pre ++ c .destination ∷ [] in
-      let x = withArgs sid (Entry.start e) (c .args) in
+      let x = withArgs sid start (c .args) in
       let path = x ∷ c .destination ∷ [] in
       let p = onTheWay (c .trafficClass) upper hop source held path (c .inner) in
       let r = srh upper (length path - 1) held (c .inner) in
       let n = srv6Payload held (c .inner) in
-      let hx = withArgs-length sid (Entry.start e) (c .args) hs hb (v .args) in
+      let hx = withArgs-length sid start (c .args) hs hb (v .args) in
       let g : segment p 0 ≡ c .destination =
       ipv6-segment (c .trafficClass) n routingHeader hop source x r (w .from) hx 0
       ∙ sym (window-drop r 8 0 16) ∙ segment-behind pre (c .destination) [] (c .inner) (v .to) tt in
@@ -67,17 +67,17 @@ module _ (e : List ℕ) (upper hop : ℕ) (source : List ℕ) (pre : List (List 
         trafficClass = ipv6-trafficClass (c .trafficClass) n routingHeader hop source x r (w .from) hx (v .octet) k;
         source = sym none k;
         destination = g k;
-        args = (ap (λ (l : List ℕ). argsAt l (Entry.start e)) (way-destination (c .trafficClass) upper hop source held path (c .inner) w) ∙ withArgs-back sid (Entry.start e) (c .args) hs hb (v .args)) k;
+        args = (ap (λ (l : List ℕ). argsAt l (Entry.start e)) (way-destination (c .trafficClass) upper hop source held path (c .inner) w) ∙ ap (λ (n : ℕ). argsAt x n) he ∙ withArgs-back sid start (c .args) hs hb (v .args)) k;
         inner = way-inner (c .trafficClass) upper hop source held path (c .inner) w k;
       }
 
-  pub e6-sends : (s : Stop) (j : ℕ) → entryAt (s .table) j ≡ e → AtEntry s (withArgs sid (Entry.start e) (c .args)) endMGtp6E j
+  pub e6-sends : (s : Stop) (j : ℕ) → entryAt (s .table) j ≡ e → AtEntry s (withArgs sid start (c .args)) endMGtp6E j
       → HasRoom s (length (e6Packet e c)) → accepts (Entry.session e) upper ≡ true
-      → call s (onTheWay (c .trafficClass) upper hop source (pre ++ c .destination ∷ []) (withArgs sid (Entry.start e) (c .args) ∷ c .destination ∷ []) (c .inner)) ≡ Sent (e6Packet e c)
+      → call s (onTheWay (c .trafficClass) upper hop source (pre ++ c .destination ∷ []) (withArgs sid start (c .args) ∷ c .destination ∷ []) (c .inner)) ≡ Sent (e6Packet e c)
   unfolding atE6 e6Rows
-  e6-sends s j he a room ha =
+  e6-sends s j hj a room ha =
       let held = pre ++ c .destination ∷ [] in
-      let x = withArgs sid (Entry.start e) (c .args) in
+      let x = withArgs sid start (c .args) in
       let path = x ∷ c .destination ∷ [] in
       let p = onTheWay (c .trafficClass) upper hop source held path (c .inner) in
       let h : 1 ≤ length held = rw (length-append pre (c .destination ∷ [])) (omega arith) in
@@ -86,7 +86,7 @@ module _ (e : List ℕ) (upper hop : ℕ) (source : List ℕ) (pre : List (List 
       entry-sends s p x (e6Packet e c) endMGtp6E j a (way-destination (c .trafficClass) upper hop source held path (c .inner) w)
       (way-wellformed (c .trafficClass) upper hop source held path (c .inner) w)
       (at-e6 (s .table) (entryAt (s .table) j) p (a .kind)
-      ∙ ap (λ (e : List ℕ). atE6 e p) he
+      ∙ ap (λ (e : List ℕ). atE6 e p) hj
       ∙ unless-none (e6Rows e (header p)) (unless (lengthRow (e6Payload (e6Carried e p .inner)) ∷ []) (Sent (e6Packet e (e6Carried e p)))) n
       ∙ unless-none (lengthRow (e6Payload (e6Carried e p .inner)) ∷ []) (Sent (e6Packet e (e6Carried e p))) m
       ∙ ap (λ (c : Carried). Sent (e6Packet e c)) e6-reads)

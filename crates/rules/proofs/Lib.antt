@@ -15,3 +15,5 @@ pub mod Messages
 pub mod NearGtp6
 pub mod Sessions
 pub mod Paths
+pub mod Again
+pub mod Demand3v6

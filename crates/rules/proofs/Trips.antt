@@ -2,11 +2,12 @@
 use mathlib.Core.Path.{_≡_, refl, sym, ap, _∙_}
 use mathlib.Core.List.{List, [], _∷_, _++_}
 use Prim.Native.Nat.{ℕ, zero, suc, _+_}
-use lib.ListN.{length, take, drop}
-use lib.Seq.{take-append-seam}
+use lib.ListN.{length, take, drop, getD}
+use lib.Seq.{take-append-seam, getD-at}
+use native.Mathlib.Numerals.{add-one}
 use Rattle.rules.specs.Octets.{splice}
 use Rattle.rules.specs.Answer.{Outcome, Sent, Refused, overlay}
-use Rattle.rules.specs.Trip.{Version, v4, v6, Stop, Trip, translate, call, onward, buffersOf, trip}
+use Rattle.rules.specs.Trip.{Version, v4, v6, Stop, Trip, translate, call, onward, buffersOf, trip, stops}
 use Rattle.rules.specs.Calls.{translate6, translate4}
 use Rattle.rules.specs.declared.Refusal.{Refusal}
 
@@ -79,3 +80,20 @@ trip-buffers (s ∷ ss) p = go (λ o. trip-buffers ss o) (call s p)
     go : ((x : List ℕ) → length (trip ss x .buffers) ≡ length ss) → (o : Outcome) → length (onward o s ss (λ o. trip ss o) .buffers) ≡ suc (length ss)
     go ih (Sent x) = ap suc (ih (take (length x) (overlay (Sent x) (s .buffer))))
     go ih (Refused r) = ap suc (kept ss)
+
+-- a near call, a trip and a far call, one after the other
+pub trip-whole : (near : Stop) (ss : List Stop) (far : Stop) (p a b c : List ℕ) → call near p ≡ Sent a → trip ss a .outcome ≡ Sent b → call far b ≡ Sent c
+    → (trip (stops near ss far) p .outcome ≡ Sent c) × (getD (trip (stops near ss far) p .buffers) (length ss + 1) [] ≡ splice (far .buffer) 0 c)
+trip-whole near ss far p a b c h₁ h₂ h₃ =
+    let bs = trip ss a .buffers in
+    let t₁ = trip-step near (ss ++ far ∷ []) p a h₁ in
+    let t₂ : trip (ss ++ far ∷ []) a ≡ join (Sent b) bs (far ∷ []) (λ o. trip (far ∷ []) o) =
+    trip-append ss (far ∷ []) a ∙ ap (λ (o : Outcome). join o bs (far ∷ []) (λ o. trip (far ∷ []) o)) h₂ in
+    let t₃ = trip-step far [] b c h₃ in (
+      ap (λ (t : Trip). t .outcome) t₁ ∙ ap (λ (t : Trip). t .outcome) t₂ ∙ ap (λ (t : Trip). t .outcome) t₃ ∙ trip-none c,
+      ap (λ (t : Trip). getD (t .buffers) (length ss + 1) []) t₁
+          ∙ rw (add-one (length ss))
+          (ap (λ (t : Trip). getD (t .buffers) (length ss) []) t₂
+          ∙ ap (λ (t : Trip). getD (bs ++ t .buffers) (length ss) []) t₃
+          ∙ getD-at bs (splice (far .buffer) 0 c) (trip [] c .buffers) [] (length ss) (trip-buffers ss a)),
+    )
