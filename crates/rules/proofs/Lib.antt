@@ -17,3 +17,9 @@ pub mod Sessions
 pub mod Paths
 pub mod Again
 pub mod Demand3v6
+pub mod DeliveryD
+pub mod Checksums
+pub mod FarE4
+pub mod NearD4
+pub mod Demand3v4
+pub mod Demand3

@@ -343,7 +343,17 @@ fn srh_field(rng: &mut Rng, packet: &mut Assembled) -> Option<&'static str> {
 fn upper_field(rng: &mut Rng, packet: &mut Assembled) -> Option<&'static str> {
     let gtpu = packet.layout.gtpu?;
     let (udp_length, gtpu_length) = (packet.layout.upper + 4, gtpu + 2);
-    Some(match rng.below(6) {
+    Some(match rng.below(7) {
+        6 => {
+            let length = gtpu + 8 + rng.below(5);
+            if packet.octets.len() < length {
+                return None;
+            }
+            packet.octets[gtpu] = flag::VERSION_1 | flag::PT | rng.below(8) as u8;
+            packet.octets.truncate(length);
+            packet.repair(Repair::All);
+            "any of E, S, PN and 8 to 12 octets of GTP-U"
+        }
         0 | 1 => {
             let value = if rng.chance(20) { rng.below(10) } else { near(rng, packet.get16(udp_length)) };
             packet.set16(udp_length, value);
