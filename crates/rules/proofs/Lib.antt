@@ -23,3 +23,6 @@ pub mod FarE4
 pub mod NearD4
 pub mod Demand3v4
 pub mod Demand3
+pub mod Samples
+pub mod Worked
+pub mod Premises

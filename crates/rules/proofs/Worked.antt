@@ -1,0 +1,126 @@
+-- The starred worked packets of document 01: rows of one list, under one claim about the definitions.
+use mathlib.Core.Bool.{Bool, true, false, _&&_}
+use mathlib.Core.List.{List, [], _∷_, _++_}
+use Prim.Native.Nat.{ℕ, _+_, _-_, _*_}
+use lib.Dec.{T, eqb}
+use lib.ListN.{length, take, replicate}
+use Rattle.rules.specs.Octets.{octet, window, number, splice}
+use Rattle.rules.specs.Prefix.{firstBits, under, clear}
+use Rattle.rules.specs.Assigned.{end, endMGtp6D, endMGtp6DDi, endMGtp6E, ipv6Protocol, routingHeader}
+use Rattle.rules.specs.Table.{entryAt, ruleAt, policyAt, addressesAt}
+use Rattle.rules.specs.Match.{longest, matchEntry, matchRule}
+use Rattle.rules.specs.Sound.{all, headerSound, entrySound, ruleSound, policySound, sameEntryPrefix, sameRulePrefix, distinct, soundWithin}
+use Rattle.rules.specs.Ipv6 as Ipv6
+use Rattle.rules.specs.Ipv6.{ipv6}
+use Rattle.rules.specs.Srh.{segment, srh}
+use Rattle.rules.specs.Checksum.{onesSum}
+use Rattle.rules.specs.Gtpu.{udp}
+use Rattle.rules.specs.Args.{argsOctets, argsAt, withArgs}
+use Rattle.rules.specs.Answer.{Outcome, Sent, Refused, verdict, settle, overlay}
+use Rattle.rules.specs.Header.{header}
+use Rattle.rules.specs.Datagram.{datagram, messageRows, gPduRows}
+use Rattle.rules.specs.Session.{innerProtocol, accepts}
+use Rattle.rules.specs.Carried.{carriedBy, carried6, carried4}
+use Rattle.rules.specs.Waypoint.{withRouting, forwarded, waypointRows, atWaypoint}
+use Rattle.rules.specs.Gtp6D.{gtp6DPacket, gtp6Rows, gtp6DRows, atGtp6D}
+use Rattle.rules.specs.D.{dPath, dPacket, atD}
+use Rattle.rules.specs.Di.{diPath, diPacket, atDi}
+use Rattle.rules.specs.E6.{e6Carried, e6Packet, e6Rows, atE6}
+use Rattle.rules.specs.D4.{d4Sid, d4Source}
+use Rattle.rules.specs.Calls.{frontRows6, atEntry, atFoundEntry, decide6, translate6}
+use Rattle.rules.specs.Trip.{Stop, v6, trip}
+use Rattle.rules.proofs.Samples as Samples
+use Rattle.rules.proofs.Samples.{zeros, sidOf, gateway6, argsOf, table, values4, packet6}
+
+pub record Example : Type 0 where
+  pub got : List ℕ
+  pub want : List ℕ
+
+-- what is computed, and what document 01 says
+abbrev pub is : List ℕ → List ℕ → Example
+is got want = record { got = got; want = want }
+
+abbrev pub same : List ℕ → List ℕ → Bool
+same [] [] = true
+same (x ∷ xs) (y ∷ ys) = eqb x y && same xs ys
+same [] (y ∷ ys) = false
+same (x ∷ xs) [] = false
+
+abbrev pub right : List Example → Bool
+right [] = true
+right (x ∷ xs) = same (x .got) (x .want) && right xs
+
+-- number, ICMP type, code and pointer, and length of an answer
+abbrev pub answer : Outcome → List ℕ
+answer (Sent x) = 0 ∷ 0 ∷ 0 ∷ 0 ∷ length x ∷ []
+answer (Refused r) = r .number ∷ r .icmpType ∷ r .icmpCode ∷ r .pointer ∷ 0 ∷ []
+
+abbrev pub sent : ℕ → List ℕ
+sent n = 0 ∷ 0 ∷ 0 ∷ 0 ∷ n ∷ []
+
+abbrev pub octetsOf : Outcome → List ℕ
+octetsOf (Sent x) = x
+octetsOf (Refused r) = []
+
+abbrev pub call : (packet table : List ℕ) (room : ℕ) → List ℕ
+call p t room = answer (translate6 p t room)
+
+-- inner 100, one-unit container
+abbrev pub in164 : List ℕ
+in164 = packet6 (replicate 100 7)
+
+-- at the far gateway and at a waypoint: an SRH of two segments, with SL and hop limit
+abbrev pub toE6 : (segmentsLeft : ℕ) → List ℕ
+toE6 segmentsLeft =
+    let sid = withArgs (sidOf 1) 64 (argsOf 9 1) in
+    ipv6 0 140 routingHeader 64 (sidOf 0x63) sid (srh ipv6Protocol segmentsLeft (sid ∷ gateway6 ∷ []) (replicate 100 7))
+
+abbrev pub toWaypoint : (hopLimit : ℕ) → List ℕ
+toWaypoint hopLimit = ipv6 0 140 routingHeader hopLimit (sidOf 0x63) (sidOf 2) (srh ipv6Protocol 1 (sidOf 2 ∷ sidOf 1 ∷ []) (replicate 100 7))
+
+abbrev pub stopOf : (behaviour waypoints : ℕ) → Stop
+stopOf behaviour waypoints = record { version = v6; table = table behaviour waypoints; buffer = replicate 300 255 }
+
+-- the GTP-U message of the papers in a UDP datagram
+abbrev pub message : List ℕ
+message = udp 2152 26 0 (0x34 ∷ 0xff ∷ 0x00 ∷ 0x0a ∷ 0x01 ∷ 0x02 ∷ 0x03 ∷ 0x04 ∷ 0x00 ∷ 0x00 ∷ 0x00 ∷ 0x85 ∷ 0x01 ∷ 0x00 ∷ 0x49 ∷ 0x00 ∷ 0x60 ∷ 0x00 ∷ [])
+
+abbrev pub args9 : List ℕ
+args9 = 0x26 ∷ 0x01 ∷ 0x02 ∷ 0x03 ∷ 0x04 ∷ []
+
+unfoldable pub examples : List Example
+examples =
+    -- Args
+    is (argsOctets (argsOf 9 1)) args9
+    ∷ is (argsOctets (argsOf 5 0)) (0x14 ∷ 0x01 ∷ 0x02 ∷ 0x03 ∷ 0x04 ∷ [])
+    ∷ is (take 1 (argsOctets (argsOf 63 1))) (0xfe ∷ [])
+    ∷ is (argsOctets (argsAt (0xff ∷ 1 ∷ 2 ∷ 3 ∷ 4 ∷ []) 0)) (argsOctets (argsOf 63 1))
+    ∷ is (argsOctets (carriedBy 0 [] [] message .args)) args9
+    ∷ is (carriedBy 0 [] [] message .inner) (0x60 ∷ 0x00 ∷ [])
+    -- SIDs
+    ∷ is (withArgs (sidOf 1) 64 (argsOf 9 1)) (0x20 ∷ 0x01 ∷ 0x0d ∷ 0xb8 ∷ 0x00 ∷ 0x0b ∷ 0x00 ∷ 0x01 ∷ 0x26 ∷ 0x01 ∷ 0x02 ∷ 0x03 ∷ 0x04 ∷ 0x00 ∷ 0x00 ∷ 0x00 ∷ [])
+    ∷ is (d4Sid (Samples.rule []) (values4 [])) (0x20 ∷ 0x01 ∷ 0x0d ∷ 0xb8 ∷ 0x00 ∷ 0x0c ∷ 0xc0 ∷ 0x00 ∷ 0x02 ∷ 0x01 ∷ 0x26 ∷ 0x01 ∷ 0x02 ∷ 0x03 ∷ 0x04 ∷ 0x00 ∷ [])
+    ∷ is (d4Source (Samples.rule []) (values4 [])) (0x20 ∷ 0x01 ∷ 0x0d ∷ 0xb8 ∷ 0x00 ∷ 0x0d ∷ 0x00 ∷ 0x00 ∷ 0xc6 ∷ 0x33 ∷ 0x64 ∷ 0x07 ∷ 0x00 ∷ 0x00 ∷ 0x00 ∷ 0x00 ∷ [])
+    -- lengths
+    ∷ is (length in164 ∷ []) (164 ∷ [])
+    ∷ is (call in164 (table endMGtp6D 0) 1500) (sent 164)
+    ∷ is (call in164 (table endMGtp6D 2) 1500) (sent 196)
+    ∷ is (call in164 (table endMGtp6DDi 0) 1500) (sent 180)
+    ∷ is (octetsOf (trip (stopOf endMGtp6DDi 0 ∷ stopOf endMGtp6DDi 0 ∷ []) in164 .outcome)) in164
+    -- room
+    ∷ is (call in164 (table endMGtp6D 0) 163) (16 ∷ 0 ∷ 0 ∷ 0 ∷ 0 ∷ [])
+    ∷ is (call in164 (table endMGtp6D 0) 164) (sent 164)
+    -- Segments Left at E6, hop limit at a waypoint
+    ∷ is (call (toE6 0) (table endMGtp6D 0) 1500) (7 ∷ 4 ∷ 0 ∷ 43 ∷ 0 ∷ [])
+    ∷ is (call (toE6 2) (table endMGtp6D 0) 1500) (7 ∷ 4 ∷ 0 ∷ 43 ∷ 0 ∷ [])
+    ∷ is (call (toE6 1) (table endMGtp6D 0) 1500) (sent 164)
+    ∷ is (call (toWaypoint 1) (table endMGtp6D 0) 1500) (6 ∷ 3 ∷ 0 ∷ 0 ∷ 0 ∷ [])
+    ∷ is (Ipv6.hopLimit (octetsOf (translate6 (toWaypoint 2) (table endMGtp6D 0) 1500)) ∷ []) (1 ∷ [])
+    -- the longest inner packet past eight SIDs
+    ∷ is (call (packet6 (replicate 65399 0)) (table endMGtp6D 7) 66000) (sent 65575)
+    ∷ is (call (packet6 (replicate 65400 0)) (table endMGtp6D 7) 66000) (15 ∷ 0 ∷ 0 ∷ 0 ∷ 0 ∷ [])
+    ∷ []
+
+pub worked : T (right examples)
+unfolding examples window number splice firstBits under clear entryAt ruleAt policyAt addressesAt longest matchEntry matchRule all headerSound entrySound ruleSound policySound sameEntryPrefix sameRulePrefix distinct soundWithin segment onesSum argsAt withArgs verdict settle overlay header datagram messageRows gPduRows innerProtocol accepts carriedBy carried6 carried4 withRouting forwarded waypointRows atWaypoint gtp6DPacket gtp6Rows gtp6DRows atGtp6D dPath dPacket atD diPath diPacket atDi e6Carried e6Packet e6Rows atE6 d4Sid d4Source frontRows6 atEntry atFoundEntry decide6 translate6 trip
+worked = tt

@@ -1,0 +1,85 @@
+//! Any packet, any table octets, any output length: an answer, no panic, and
+//! no octet changed that is not the packet's. Built with overflow checks.
+
+use second::generate::{case, translate, Call};
+use second::rng::Rng;
+use second::Answer;
+
+fn run_both(packet: &[u8], table: &[u8], room: usize, filler: u8) {
+    for call in [Call::Ipv6, Call::Ipv4] {
+        let mut out = vec![filler; room];
+        let answer = Answer::unpack(translate(call, packet, table, &mut out));
+        let length = answer.length as usize;
+        assert!(answer.number <= 16);
+        assert!(length <= room);
+        assert!(answer.number == 0 || length == 0);
+        assert!(out[length..].iter().all(|&octet| octet == filler));
+    }
+}
+
+fn any_length(rng: &mut Rng) -> usize {
+    match rng.below(20) {
+        0 => rng.between(0, 70_000),
+        1 => rng.pick(&[65_535, 65_536, 65_574, 65_575, 65_576, 70_000]),
+        _ => rng.below(300),
+    }
+}
+
+#[test]
+fn random_octets() {
+    let mut rng = Rng::new(11);
+    for _ in 0..3_000 {
+        let (packet, table, room) = (any_length(&mut rng), any_length(&mut rng), any_length(&mut rng));
+        let (mut packet, mut table) = (rng.octets(packet), rng.octets(table));
+        // Sometimes a header that goes a little further.
+        if let (true, Some(first)) = (rng.chance(50), packet.first_mut()) {
+            *first = rng.pick(&[0x60, 0x45]);
+        }
+        if let (true, Some(first)) = (rng.chance(80), table.first_mut()) {
+            *first = 1;
+        }
+        run_both(&packet, &table, room, rng.u8());
+    }
+}
+
+#[test]
+fn every_header_octet_of_valid_cases() {
+    for index in 0..60 {
+        let case = case(12, index);
+        for at in 0..case.packet.len().min(120) {
+            for value in [0, 1, 0x7f, 0x80, 0xff] {
+                let mut packet = case.packet.clone();
+                packet[at] = value;
+                run_both(&packet, &case.table, case.room, 0x5a);
+            }
+        }
+        for at in 0..case.table.len().min(500) {
+            let mut table = case.table.clone();
+            table[at] ^= 0xff;
+            run_both(&case.packet, &table, case.room, 0x5a);
+        }
+    }
+}
+
+#[test]
+fn every_length() {
+    for index in 0..24 {
+        let case = case(13, index);
+        for length in 0..=case.packet.len().min(400) {
+            run_both(&case.packet[..length], &case.table, 500, 1);
+        }
+        for length in 0..=case.table.len().min(1_500) {
+            run_both(&case.packet, &case.table[..length], 500, 1);
+        }
+        for room in 0..=400 {
+            run_both(&case.packet, &case.table, room, 1);
+        }
+    }
+}
+
+#[test]
+fn generated_cases_hold_over_any_output() {
+    for index in 0..6_000 {
+        case(14, index).check().unwrap_or_else(|why| panic!("seed 14 index {index}: {why}"));
+    }
+}
