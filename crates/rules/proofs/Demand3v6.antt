@@ -131,9 +131,8 @@ module _ (near : Stop) (ss : List Stop) (far : Stop) (address : List ℕ) (c : C
       entry-sends near p address (diPacket e y c) endMGtp6DDi i (r .enters) hd (n .front)
       (at-di (near .table) (entryAt (near .table) i) p (r .enters .kind)
       ∙ (λ k. atDi (r .entry k) (r .policy k) p)
-      ∙ ap (λ (c : Carried). atGtp6D e (diPath y c) p) hc
-      ∙ passed-sent e (diPath y c) p n
-      ∙ ap (λ (c′ : Carried). Sent (gtp6DPacket e (diPath y c) c′)) hc)
+      ∙ ap (λ (c : Carried). atGtp6D e (diPath y c) (diPacket e y c) p) hc
+      ∙ passed-sent e (diPath y c) (diPacket e y c) p n)
       (r .room .atNear) in
       trip-whole near ss far p _ _ _ h (o .0) (o .1)
 
@@ -148,8 +147,8 @@ demand3-ipv6 near ss far p i j m =
     let v = carried6-valid p (m .octets) in
     let none = carried6-source p in
     let (front, k) = sent-entry near p (Ipv6.destination p) (m .sent .0) endMGtp6DDi i (m .enters) refl (m .sent .1) in
-    let (n, _) = sent-passed e (diPath y c) p (m .sent .0) front (sym (at-di (near .table) e p (m .enters .kind)) ∙ k) in
-    let quiet : cond (eqb (Entry.direction f) downlink) 0 (c .args .reflective) ≡ 0 = rw (m .direction) (passed-quiet e (diPath y c) p n) in
+    let (n, _) = sent-passed e (diPath y c) (diPacket e y c) p (m .sent .0) front (sym (at-di (near .table) e p (m .enters .kind)) ∙ k) in
+    let quiet : cond (eqb (Entry.direction f) downlink) 0 (c .args .reflective) ≡ 0 = rw (m .direction) (passed-quiet e (diPath y c) (diPacket e y c) p n) in
     let back = back-values f c v none quiet in
     let there = back-destination f c v none ∙ carried6-destination p in
     let (arrives, buffer) = whole near ss far (Ipv6.destination p) c i j e y f r v none p refl refl n in

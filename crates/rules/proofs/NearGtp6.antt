@@ -17,7 +17,7 @@ use Rattle.rules.specs.Answer.{Outcome, Sent, unless}
 use Rattle.rules.specs.Header.{header, malformed}
 use Rattle.rules.specs.Datagram.{datagram, messageRows, gPduRows}
 use Rattle.rules.specs.Carried.{Carried, carriedBy, carried6, datagramIn6}
-use Rattle.rules.specs.Gtp6D.{gtp6DPacket, gtp6Rows, gtp6DRows, atGtp6D}
+use Rattle.rules.specs.Gtp6D.{gtp6Rows, gtp6DRows, atGtp6D}
 use Rattle.rules.specs.E6.{e6Packet, e6Payload}
 use Rattle.rules.specs.declared.Header.{Header}
 use Rattle.rules.proofs.Windows.{window-length}
@@ -35,9 +35,9 @@ pub record Passed (e : List ℕ) (path : List (List ℕ)) (p : List ℕ) : Type 
   pub gPdu : None (gPduRows (Entry.direction e) (datagram (datagramIn6 p)))
   pub last : None (gtp6DRows e path (carried6 p .inner))
 
-module _ (e : List ℕ) (path : List (List ℕ)) (p : List ℕ) where
+module _ (e : List ℕ) (path : List (List ℕ)) (made p : List ℕ) where
   last-step : Outcome
-  last-step = unless (gtp6DRows e path (carried6 p .inner)) (Sent (gtp6DPacket e path (carried6 p)))
+  last-step = unless (gtp6DRows e path (carried6 p .inner)) (Sent made)
 
   gPdu-step : Outcome
   gPdu-step = unless (gPduRows (Entry.direction e) (datagram (datagramIn6 p))) last-step
@@ -45,22 +45,22 @@ module _ (e : List ℕ) (path : List (List ℕ)) (p : List ℕ) where
   message-step : Outcome
   message-step = unless (messageRows (datagram (datagramIn6 p))) gPdu-step
 
-  pub sent-passed : (x : List ℕ) → Clear (malformed (header p)) → atGtp6D e path p ≡ Sent x → Passed e path p × (gtp6DPacket e path (carried6 p) ≡ x)
+  pub sent-passed : (x : List ℕ) → Clear (malformed (header p)) → atGtp6D e path made p ≡ Sent x → Passed e path p × (made ≡ x)
   unfolding atGtp6D last-step gPdu-step message-step
   sent-passed x front h =
       let (n₁, k₁) = unless-sent (gtp6Rows (header p) (datagram (datagramIn6 p))) message-step x h in
       let (n₂, k₂) = unless-sent (messageRows (datagram (datagramIn6 p))) gPdu-step x k₁ in
       let (n₃, k₃) = unless-sent (gPduRows (Entry.direction e) (datagram (datagramIn6 p))) last-step x k₂ in
-      let (n₄, k₄) = unless-sent (gtp6DRows e path (carried6 p .inner)) (Sent (gtp6DPacket e path (carried6 p))) x k₃ in
+      let (n₄, k₄) = unless-sent (gtp6DRows e path (carried6 p .inner)) (Sent made) x k₃ in
       (record { front = front; tunnel = n₁; message = n₂; gPdu = n₃; last = n₄ }, cc)
 
-  pub passed-sent : Passed e path p → atGtp6D e path p ≡ Sent (gtp6DPacket e path (carried6 p))
+  pub passed-sent : Passed e path p → atGtp6D e path made p ≡ Sent made
   unfolding atGtp6D last-step gPdu-step message-step
   passed-sent n =
       unless-none (gtp6Rows (header p) (datagram (datagramIn6 p))) message-step (n .tunnel)
       ∙ unless-none (messageRows (datagram (datagramIn6 p))) gPdu-step (n .message)
       ∙ unless-none (gPduRows (Entry.direction e) (datagram (datagramIn6 p))) last-step (n .gPdu)
-      ∙ unless-none (gtp6DRows e path (carried6 p .inner)) (Sent (gtp6DPacket e path (carried6 p))) (n .last)
+      ∙ unless-none (gtp6DRows e path (carried6 p .inner)) (Sent made) (n .last)
 
   -- in uplink R is 0
   pub passed-quiet : Passed e path p → cond (eqb (Entry.direction e) downlink) 0 (carried6 p .args .reflective) ≡ 0

@@ -19,4 +19,4 @@ unfoldable pub dPacket : (e y : List ℕ) → Carried → List ℕ
 dPacket e y c = gtp6DPacket e (dPath y c) c
 
 unfoldable pub atD : (e y p : List ℕ) → Outcome
-atD e y p = atGtp6D e (dPath y (carried6 p)) p
+atD e y p = atGtp6D e (dPath y (carried6 p)) (dPacket e y (carried6 p)) p

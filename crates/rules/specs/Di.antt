@@ -15,4 +15,4 @@ unfoldable pub diPacket : (e y : List ℕ) → Carried → List ℕ
 diPacket e y c = gtp6DPacket e (diPath y c) c
 
 unfoldable pub atDi : (e y p : List ℕ) → Outcome
-atDi e y p = atGtp6D e (diPath y (carried6 p)) p
+atDi e y p = atGtp6D e (diPath y (carried6 p)) (diPacket e y (carried6 p)) p

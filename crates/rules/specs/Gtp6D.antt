@@ -26,10 +26,11 @@ gtp6Rows h g =
 unfoldable pub gtp6DRows : (e : List ℕ) (path : List (List ℕ)) (inner : List ℕ) → List Row
 gtp6DRows e path inner = row (badInner (Entry.session e) inner) 14 ∷ lengthRow (srv6Payload path inner) ∷ []
 
-unfoldable pub atGtp6D : (e : List ℕ) (path : List (List ℕ)) (p : List ℕ) → Outcome
-atGtp6D e path p =
+-- a packet p at the entry e, from which a packet along a path is made
+unfoldable pub atGtp6D : (e : List ℕ) (path : List (List ℕ)) (made p : List ℕ) → Outcome
+atGtp6D e path made p =
     let g = datagram (datagramIn6 p) in
     unless (gtp6Rows (header p) g)
     (unless (messageRows g)
     (unless (gPduRows (Entry.direction e) g)
-    (unless (gtp6DRows e path (carried6 p .inner)) (Sent (gtp6DPacket e path (carried6 p))))))
+    (unless (gtp6DRows e path (carried6 p .inner)) (Sent made))))

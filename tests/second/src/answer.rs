@@ -21,7 +21,10 @@ pub struct Answer {
 
 impl Answer {
     pub fn sent(length: usize) -> Self {
-        Answer { length: length as u32, ..Answer::default() }
+        Answer {
+            length: length as u32,
+            ..Answer::default()
+        }
     }
 
     /// Number in bits 0-7, ICMP type 8-15, code 16-23, pointer 24-39, length 40-63.
@@ -106,10 +109,18 @@ impl Refusal {
         let (icmp_type, icmp_code, icmp_pointer) = match self {
             Refusal::HopLimit => (TIME_EXCEEDED, 0, 0),
             Refusal::SegmentsLeft => (PARAMETER_PROBLEM, 0, SEGMENTS_LEFT_OFFSET),
-            Refusal::UpperLayer { offset } => (PARAMETER_PROBLEM, SR_UPPER_LAYER_HEADER_ERROR, offset),
+            Refusal::UpperLayer { offset } => {
+                (PARAMETER_PROBLEM, SR_UPPER_LAYER_HEADER_ERROR, offset)
+            }
             _ => (0, 0, 0),
         };
-        Answer { number, icmp_type, icmp_code, icmp_pointer, length: 0 }
+        Answer {
+            number,
+            icmp_type,
+            icmp_code,
+            icmp_pointer,
+            length: 0,
+        }
     }
 }
 
@@ -119,7 +130,13 @@ mod tests {
 
     #[test]
     fn packs_each_part_in_its_bits() {
-        let answer = Answer { number: 8, icmp_type: 4, icmp_code: 4, icmp_pointer: 0x0828, length: 0 };
+        let answer = Answer {
+            number: 8,
+            icmp_type: 4,
+            icmp_code: 4,
+            icmp_pointer: 0x0828,
+            length: 0,
+        };
         assert_eq!(answer.pack(), 0x08_2804_0408);
         assert_eq!(Answer::unpack(answer.pack()), answer);
         let sent = Answer::sent(65_575);
@@ -131,7 +148,10 @@ mod tests {
     fn only_rows_6_7_and_8_name_icmp() {
         assert_eq!(Refusal::HopLimit.answer().pack(), 0x0306);
         assert_eq!(Refusal::SegmentsLeft.answer().pack(), 0x2b00_0407);
-        assert_eq!(Refusal::UpperLayer { offset: 40 }.answer().pack(), 0x2804_0408);
+        assert_eq!(
+            Refusal::UpperLayer { offset: 40 }.answer().pack(),
+            0x2804_0408
+        );
         assert_eq!(Refusal::NotGtpu.answer().pack(), 8);
         assert_eq!(Refusal::NoRoom.answer().pack(), 16);
     }

@@ -45,13 +45,29 @@ fn shift_of(start: u8) -> u32 {
 mod tests {
     use super::*;
 
-    const FIRST: ArgsMobSession = ArgsMobSession { qfi: 9, reflective: true, teid: 0x0102_0304 };
+    const FIRST: ArgsMobSession = ArgsMobSession {
+        qfi: 9,
+        reflective: true,
+        teid: 0x0102_0304,
+    };
 
     #[test]
     fn bits() {
         assert_eq!(FIRST.to_bits(), 0x26_0102_0304);
-        assert_eq!(ArgsMobSession { qfi: 5, reflective: false, ..FIRST }.to_bits(), 0x14_0102_0304);
-        let top = ArgsMobSession { qfi: 63, reflective: true, teid: 0 };
+        assert_eq!(
+            ArgsMobSession {
+                qfi: 5,
+                reflective: false,
+                ..FIRST
+            }
+            .to_bits(),
+            0x14_0102_0304
+        );
+        let top = ArgsMobSession {
+            qfi: 63,
+            reflective: true,
+            teid: 0,
+        };
         assert_eq!(top.to_bits() >> 32, 0xfe);
         assert_eq!(ArgsMobSession::from_bits(0xff_0000_0000), top);
     }
@@ -66,7 +82,10 @@ mod tests {
                 assert_eq!(placed[..s], before[..s]);
                 assert_eq!(placed[s..s + 5], [0x26, 1, 2, 3, 4]);
                 assert_eq!(placed[s + 5..], before[s + 5..]);
-                assert_eq!(ArgsMobSession::read(u128::from_be_bytes(placed), start), FIRST);
+                assert_eq!(
+                    ArgsMobSession::read(u128::from_be_bytes(placed), start),
+                    FIRST
+                );
             }
         }
     }

@@ -71,8 +71,14 @@ impl fmt::Display for Coverage {
 impl fmt::Display for Finding {
     fn fmt(&self, f: &mut fmt::Formatter<'_>) -> fmt::Result {
         match self {
-            Finding::Gap(kind, number) => write!(f, "{}: number {number} did not occur", kind.name()),
-            Finding::Stray(kind, number) => write!(f, "{}: number {number} cannot occur there and did", kind.name()),
+            Finding::Gap(kind, number) => {
+                write!(f, "{}: number {number} did not occur", kind.name())
+            }
+            Finding::Stray(kind, number) => write!(
+                f,
+                "{}: number {number} cannot occur there and did",
+                kind.name()
+            ),
         }
     }
 }
@@ -82,7 +88,8 @@ pub fn collect(seed: u64, cases: u64) -> Result<Coverage, String> {
     let mut coverage = Coverage::default();
     for index in 0..cases {
         let case = generate::case(seed, index);
-        case.check().map_err(|why| format!("seed {seed} index {index}: {why}"))?;
+        case.check()
+            .map_err(|why| format!("seed {seed} index {index}: {why}"))?;
         coverage.add(case.kind, case.answer.number);
     }
     Ok(coverage)
@@ -103,6 +110,9 @@ mod tests {
         assert_eq!(coverage.findings(), []);
         coverage.add(Kind::E6, 15);
         assert_eq!(coverage.findings(), [Finding::Stray(Kind::E6, 15)]);
-        assert_eq!(Coverage::default().findings().len(), 9 + 15 + 15 + 8 + 9 + 14);
+        assert_eq!(
+            Coverage::default().findings().len(),
+            9 + 15 + 15 + 8 + 9 + 14
+        );
     }
 }

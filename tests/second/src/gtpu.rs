@@ -44,7 +44,10 @@ impl Container {
     /// What we write: other bits 0, R in downlink only.
     pub fn contents(direction: Direction, args: ArgsMobSession) -> [u8; 2] {
         let reflective = direction == Direction::Downlink && args.reflective;
-        [direction.pdu_type() << 4, args.qfi & QFI | if reflective { REFLECTIVE } else { 0 }]
+        [
+            direction.pdu_type() << 4,
+            args.qfi & QFI | if reflective { REFLECTIVE } else { 0 },
+        ]
     }
 }
 
@@ -63,7 +66,10 @@ pub fn parse(octets: &[u8], direction: Direction) -> Result<GPdu<'_>, Refusal> {
     }
     let (container, inner) = walk_extensions(header.first_extension, header.rest)?;
     match container {
-        Some(c) if c.is_of(direction) => Ok(GPdu { args: c.args(direction, header.teid), inner }),
+        Some(c) if c.is_of(direction) => Ok(GPdu {
+            args: c.args(direction, header.teid),
+            inner,
+        }),
         _ => Err(Refusal::Container),
     }
 }
@@ -98,7 +104,12 @@ impl<'a> Header<'a> {
         let sound = flags & flag::VERSION == flag::VERSION_1
             && flags & flag::PT != 0
             && usize::from(length) == counted;
-        sound.then_some(Header { message_type, teid, first_extension, rest: reader.rest() })
+        sound.then_some(Header {
+            message_type,
+            teid,
+            first_extension,
+            rest: reader.rest(),
+        })
     }
 }
 
@@ -111,7 +122,8 @@ fn walk_extensions(first: u8, octets: &[u8]) -> Result<(Option<Container>, &[u8]
         if next_type != PDU_SESSION_CONTAINER || container.is_some() {
             return Err(Refusal::GtpuExtension);
         }
-        let (found, following_type, following) = read_container(rest).ok_or(Refusal::GtpuExtension)?;
+        let (found, following_type, following) =
+            read_container(rest).ok_or(Refusal::GtpuExtension)?;
         container = Some(found);
         next_type = following_type;
         rest = following;
@@ -127,7 +139,10 @@ fn read_container(octets: &[u8]) -> Option<(Container, u8, &[u8])> {
     let (next_type, body) = extension.split_last()?;
     let mut reader = Reader::new(body);
     let _units = reader.u8()?;
-    let container = Container { first: reader.u8()?, second: reader.u8()? };
+    let container = Container {
+        first: reader.u8()?,
+        second: reader.u8()?,
+    };
     Some((container, *next_type, rest))
 }
 
@@ -154,7 +169,16 @@ mod tests {
         packet[13] = 0x10;
         let pdu = parse(&packet, Direction::Uplink).unwrap();
         assert_eq!(pdu.args.to_bits(), 0x24_0102_0304);
-        assert_eq!(Container::contents(Direction::Uplink, ArgsMobSession { reflective: true, ..pdu.args }), [0x10, 9]);
+        assert_eq!(
+            Container::contents(
+                Direction::Uplink,
+                ArgsMobSession {
+                    reflective: true,
+                    ..pdu.args
+                }
+            ),
+            [0x10, 9]
+        );
     }
 
     #[test]
@@ -165,20 +189,32 @@ mod tests {
         packet[11] = 0x40;
         assert_eq!(parse(&packet, Direction::Downlink), Err(Refusal::Container));
         packet[0] = 0x34;
-        assert_eq!(parse(&packet, Direction::Downlink), Err(Refusal::GtpuExtension));
+        assert_eq!(
+            parse(&packet, Direction::Downlink),
+            Err(Refusal::GtpuExtension)
+        );
     }
 
     #[test]
     fn unit_counts() {
         let mut packet = WORKED;
         packet[12] = 0;
-        assert_eq!(parse(&packet, Direction::Downlink), Err(Refusal::GtpuExtension));
+        assert_eq!(
+            parse(&packet, Direction::Downlink),
+            Err(Refusal::GtpuExtension)
+        );
         packet[12] = 2;
-        assert_eq!(parse(&packet, Direction::Downlink), Err(Refusal::GtpuExtension));
+        assert_eq!(
+            parse(&packet, Direction::Downlink),
+            Err(Refusal::GtpuExtension)
+        );
         // No octet left for the unit count.
         let mut short = WORKED[..12].to_vec();
         short[3] = 4;
-        assert_eq!(parse(&short, Direction::Downlink), Err(Refusal::GtpuExtension));
+        assert_eq!(
+            parse(&short, Direction::Downlink),
+            Err(Refusal::GtpuExtension)
+        );
         // No inner octets.
         let mut empty = WORKED[..16].to_vec();
         empty[3] = 8;

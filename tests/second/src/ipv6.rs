@@ -81,7 +81,12 @@ impl<'a> Srh<'a> {
         let last_entry = reader.u8()?;
         let _flags_and_tag = reader.take(3)?;
         let body = reader.take(8 * usize::from(units))?;
-        let srh = Srh { next_header, segments_left, last_entry, body };
+        let srh = Srh {
+            next_header,
+            segments_left,
+            last_entry,
+            body,
+        };
         (routing_type == SEGMENT_ROUTING_TYPE).then_some((srh, reader.rest()))
     }
 
@@ -132,14 +137,21 @@ impl<'a> HeaderChain<'a> {
                 let srh_length = packet.payload.len() - upper.len();
                 // At most 40 + 8 + 255 * 8 = 2,088.
                 let upper_offset = (HEADER_LENGTH + srh_length) as u16;
-                Ok(HeaderChain { srh, protocol, upper, upper_offset })
+                Ok(HeaderChain {
+                    srh,
+                    protocol,
+                    upper,
+                    upper_offset,
+                })
             }
         }
     }
 
     /// Row 8 with its pointer.
     pub fn upper_layer_error(&self) -> Refusal {
-        Refusal::UpperLayer { offset: self.upper_offset }
+        Refusal::UpperLayer {
+            offset: self.upper_offset,
+        }
     }
 }
 
@@ -169,7 +181,10 @@ mod tests {
     fn an_srh_cut_short_is_row_5() {
         let octets = srh_octets(2, 0);
         for length in 0..octets.len() {
-            assert_eq!(Srh::parse(&octets[..length]).err(), Some(Refusal::HeaderChain));
+            assert_eq!(
+                Srh::parse(&octets[..length]).err(),
+                Some(Refusal::HeaderChain)
+            );
         }
     }
 }

@@ -1,6 +1,6 @@
 //! The command `second`.
 
-use second::{coverage, generate, trips, vectors, worked};
+use second::{coverage, generate, trips, vectors, worked, Kind};
 use std::collections::HashMap;
 use std::io::{self, BufWriter, Write};
 use std::process::ExitCode;
@@ -54,8 +54,12 @@ impl Options {
             if !known.contains(&name.as_str()) {
                 return Err(Failure::Usage(format!("unknown option {name}")));
             }
-            let value = words.next().ok_or_else(|| Failure::Usage(format!("{name} needs a number")))?;
-            let number = value.parse().map_err(|_| Failure::Usage(format!("{name}: {value} is not a number")))?;
+            let value = words
+                .next()
+                .ok_or_else(|| Failure::Usage(format!("{name} needs a number")))?;
+            let number = value
+                .parse()
+                .map_err(|_| Failure::Usage(format!("{name}: {value} is not a number")))?;
             if options.insert(name.clone(), number).is_some() {
                 return Err(Failure::Usage(format!("{name} given twice")));
             }
@@ -64,7 +68,10 @@ impl Options {
     }
 
     fn get(&self, name: &str) -> Result<u64, Failure> {
-        self.0.get(name).copied().ok_or_else(|| Failure::Usage(format!("{name} is missing")))
+        self.0
+            .get(name)
+            .copied()
+            .ok_or_else(|| Failure::Usage(format!("{name} is missing")))
     }
 
     fn get_or(&self, name: &str, default: u64) -> u64 {
@@ -92,7 +99,10 @@ fn run(words: &[String], out: &mut impl Write) -> Result<(), Failure> {
                 writeln!(out, "{finding}")?;
             }
             if !findings.is_empty() {
-                return Err(Failure::Check(format!("{} places of the table are not as they should be", findings.len())));
+                return Err(Failure::Check(format!(
+                    "{} places of the table are not as they should be",
+                    findings.len()
+                )));
             }
             writeln!(out, "seed {seed}: {cases} cases, no gap")?;
         }
@@ -103,8 +113,17 @@ fn run(words: &[String], out: &mut impl Write) -> Result<(), Failure> {
             let length = usize::try_from(max_packet).unwrap_or(usize::MAX);
             let tries = per_kind.saturating_mul(TRIES_PER_CASE).max(100_000);
             let cases = vectors::select(seed, per_kind, length, tries).map_err(Failure::Check)?;
-            writeln!(out, "# seed {seed}, {per_kind} cases a kind, packets of at most {max_packet} octets")?;
+            writeln!(
+                out,
+                "# seed {seed}, {per_kind} cases a kind, packets of at most {max_packet} octets"
+            )?;
             writeln!(out, "# kind call number icmp_type icmp_code icmp_pointer length room packet-hex table-hex out-hex")?;
+            if Kind::ALL
+                .iter()
+                .any(|&kind| vectors::leaves_out_15(kind, length))
+            {
+                writeln!(out, "# number 15 left out where it needs longer packets")?;
+            }
             for (_, case) in &cases {
                 writeln!(out, "{}", vectors::line(case))?;
             }
@@ -113,7 +132,11 @@ fn run(words: &[String], out: &mut impl Write) -> Result<(), Failure> {
             let options = Options::parse(rest, &["--seed", "--index"])?;
             let (seed, index) = (options.get("--seed")?, options.get("--index")?);
             let case = generate::case(seed, index);
-            writeln!(out, "# seed {seed} index {index}: {}", case.notes.join("; "))?;
+            writeln!(
+                out,
+                "# seed {seed} index {index}: {}",
+                case.notes.join("; ")
+            )?;
             writeln!(out, "{}", vectors::line(&case))?;
         }
         "check" => {
@@ -125,7 +148,9 @@ fn run(words: &[String], out: &mut impl Write) -> Result<(), Failure> {
                     continue;
                 }
                 let fail = |why| Failure::Check(format!("line {number}: {why}"));
-                vectors::parse(&line).and_then(|case| case.check()).map_err(fail)?;
+                vectors::parse(&line)
+                    .and_then(|case| case.check())
+                    .map_err(fail)?;
                 checked += 1;
             }
             writeln!(out, "{checked} lines as they should be")?;
@@ -154,14 +179,20 @@ fn run(words: &[String], out: &mut impl Write) -> Result<(), Failure> {
                 write!(out, " {waypoints:>6}")?;
             }
             for (name, family) in [("Di to E6", 0), ("D4 to E4", 1)] {
-                for (what, counts) in [("arrived", tally.arrived[family]), ("refused", tally.ended_early[family])] {
+                for (what, counts) in [
+                    ("arrived", tally.arrived[family]),
+                    ("refused", tally.ended_early[family]),
+                ] {
                     write!(out, "\n{name}, {what}: ")?;
                     for count in counts {
                         write!(out, " {count:>6}")?;
                     }
                 }
             }
-            writeln!(out, "\nseed {seed}: {cases} trips and their second trips as they should be")?;
+            writeln!(
+                out,
+                "\nseed {seed}: {cases} trips and their second trips as they should be"
+            )?;
         }
         other => return Err(Failure::Usage(format!("unknown command {other}"))),
     }
@@ -183,7 +214,9 @@ fn main() -> ExitCode {
             eprintln!("second: {why}");
             ExitCode::from(1)
         }
-        Err(Failure::Output(error)) if error.kind() == io::ErrorKind::BrokenPipe => ExitCode::SUCCESS,
+        Err(Failure::Output(error)) if error.kind() == io::ErrorKind::BrokenPipe => {
+            ExitCode::SUCCESS
+        }
         Err(Failure::Output(error)) => {
             eprintln!("second: cannot write: {error}");
             ExitCode::from(1)

@@ -149,14 +149,30 @@ impl SrPacket<'_> {
 
     fn write(&self, octets: &mut Vec<u8>) {
         let payload_length = self.srh_length() + self.inner.len();
-        let first_next_header = if self.segments.is_empty() { self.next_header } else { next_header::ROUTING };
+        let first_next_header = if self.segments.is_empty() {
+            self.next_header
+        } else {
+            next_header::ROUTING
+        };
         let addresses = (self.source, self.destination);
-        write_ipv6(octets, self.traffic_class, payload_length, first_next_header, self.hop_limit, addresses);
+        write_ipv6(
+            octets,
+            self.traffic_class,
+            payload_length,
+            first_next_header,
+            self.hop_limit,
+            addresses,
+        );
         if let Some(last) = self.segments.len().checked_sub(1) {
             // At most 9 segments. SL = LE; flags 0, tag 0.
             let (units, last) = (2 * self.segments.len() as u8, last as u8);
             octets.extend([self.next_header, units, 4, last, last, 0, 0, 0]);
-            octets.extend(self.segments.iter().rev().flat_map(|segment| segment.to_be_bytes()));
+            octets.extend(
+                self.segments
+                    .iter()
+                    .rev()
+                    .flat_map(|segment| segment.to_be_bytes()),
+            );
         }
         octets.extend(self.inner);
     }
@@ -175,7 +191,10 @@ impl Tunnel<'_> {
         octets.extend(udp::GTPU_PORT.to_be_bytes());
         octets.extend(udp_length.to_be_bytes());
         octets.extend([0, 0]);
-        octets.extend([gtpu::flag::VERSION_1 | gtpu::flag::PT | gtpu::flag::E, gtpu::G_PDU]);
+        octets.extend([
+            gtpu::flag::VERSION_1 | gtpu::flag::PT | gtpu::flag::E,
+            gtpu::G_PDU,
+        ]);
         octets.extend(gtpu_length.to_be_bytes());
         octets.extend(self.args.teid.to_be_bytes());
         octets.extend([0, 0, 0, gtpu::PDU_SESSION_CONTAINER]);
@@ -188,7 +207,14 @@ impl Tunnel<'_> {
 impl Gtp6Packet<'_> {
     fn write(&self, octets: &mut Vec<u8>) {
         let addresses = (self.source, self.destination);
-        write_ipv6(octets, self.traffic_class, self.tunnel.length(), next_header::UDP, self.hop_limit, addresses);
+        write_ipv6(
+            octets,
+            self.traffic_class,
+            self.tunnel.length(),
+            next_header::UDP,
+            self.hop_limit,
+            addresses,
+        );
         self.tunnel.write(octets);
     }
 }

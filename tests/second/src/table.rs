@@ -163,7 +163,10 @@ impl Ipv6Prefix {
     }
 
     pub fn of(address: u128, length: u8) -> Self {
-        Ipv6Prefix { bits: address & mask6(length.into()), length }
+        Ipv6Prefix {
+            bits: address & mask6(length.into()),
+            length,
+        }
     }
 
     pub fn matches(&self, address: u128) -> bool {
@@ -189,7 +192,10 @@ impl Ipv4Prefix {
     }
 
     pub fn of(address: u32, length: u8) -> Self {
-        Ipv4Prefix { bits: address & mask4(length.into()), length }
+        Ipv4Prefix {
+            bits: address & mask4(length.into()),
+            length,
+        }
     }
 
     pub fn matches(&self, address: u32) -> bool {
@@ -226,9 +232,17 @@ pub enum Behaviour {
     /// End.M.GTP6.D.Di.
     Di { session: Session, policy: usize },
     /// End.M.GTP6.E.
-    E6 { session: Session, args_start: u8, source_port: u16 },
+    E6 {
+        session: Session,
+        args_start: u8,
+        source_port: u16,
+    },
     /// End.M.GTP4.E.
-    E4 { session: Session, places: Ipv4Places, source_port: u16 },
+    E4 {
+        session: Session,
+        places: Ipv4Places,
+        source_port: u16,
+    },
 }
 
 impl Behaviour {
@@ -288,7 +302,7 @@ fn hop_limit(octet: u8) -> Result<u8, Unsound> {
 
 /// Held in bits, sound as 8a with a from 0 to 11.
 fn args_start(bits: u8) -> Result<u8, Unsound> {
-    if bits % 8 != 0 || bits / 8 > MAX_ARGS_START {
+    if !bits.is_multiple_of(8) || bits / 8 > MAX_ARGS_START {
         return Err(Unsound::ArgsStart);
     }
     Ok(bits / 8)
@@ -318,29 +332,56 @@ impl Entry {
         let session = || Session::decode(record[3], record[4]);
         let policy = || {
             let index = usize::from(record[5]);
-            if index < policies { Ok(index) } else { Err(Unsound::Policy) }
+            if index < policies {
+                Ok(index)
+            } else {
+                Err(Unsound::Policy)
+            }
         };
         let within = |octets: u8| {
-            if prefix.length <= 8 * octets { Ok(()) } else { Err(Unsound::PrefixLength) }
+            if prefix.length <= 8 * octets {
+                Ok(())
+            } else {
+                Err(Unsound::PrefixLength)
+            }
         };
         let source_port = u16::from_be_bytes([record[10], record[11]]);
         let behaviour = match record[0] {
             1 => Behaviour::End,
-            69 => Behaviour::D { session: session()?, policy: policy()? },
-            70 => Behaviour::Di { session: session()?, policy: policy()? },
+            69 => Behaviour::D {
+                session: session()?,
+                policy: policy()?,
+            },
+            70 => Behaviour::Di {
+                session: session()?,
+                policy: policy()?,
+            },
             71 => {
                 let args_start = args_start(record[6])?;
                 within(args_start)?;
-                Behaviour::E6 { session: session()?, args_start, source_port }
+                Behaviour::E6 {
+                    session: session()?,
+                    args_start,
+                    source_port,
+                }
             }
             72 => {
                 let places = Ipv4Places::decode(record[7], record[8])?;
                 within(places.p)?;
-                Behaviour::E4 { session: session()?, places, source_port }
+                Behaviour::E4 {
+                    session: session()?,
+                    places,
+                    source_port,
+                }
             }
             _ => return Err(Unsound::Behaviour),
         };
-        Ok(Entry { prefix, hop_limit, source, behaviour })
+        Ok(Entry {
+            prefix,
+            hop_limit,
+            source,
+            behaviour,
+        })
     }
 
     fn encode(&self) -> [u8; ENTRY_LENGTH] {
@@ -354,12 +395,20 @@ impl Entry {
                 record[5] = policy as u8;
                 Some(session)
             }
-            Behaviour::E6 { session, args_start, source_port } => {
+            Behaviour::E6 {
+                session,
+                args_start,
+                source_port,
+            } => {
                 record[6] = 8 * args_start;
                 record[10..12].copy_from_slice(&source_port.to_be_bytes());
                 Some(session)
             }
-            Behaviour::E4 { session, places, source_port } => {
+            Behaviour::E4 {
+                session,
+                places,
+                source_port,
+            } => {
                 record[7] = places.p;
                 record[8] = places.q;
                 record[10..12].copy_from_slice(&source_port.to_be_bytes());
@@ -397,7 +446,15 @@ impl Rule {
             return Err(Unsound::PrefixBits);
         }
         let waypoints = addresses.take(count).collect();
-        Ok(Rule { prefix, hop_limit, session, places, sid_prefix, source_prefix, waypoints })
+        Ok(Rule {
+            prefix,
+            hop_limit,
+            session,
+            places,
+            sid_prefix,
+            source_prefix,
+            waypoints,
+        })
     }
 
     fn encode(&self) -> [u8; RULE_LENGTH] {
@@ -427,7 +484,10 @@ impl Policy {
         }
         let args_start = args_start(record[1])?;
         reserved(record[2])?;
-        let sids = addresses(&record[16..144]).into_iter().take(count).collect();
+        let sids = addresses(&record[16..144])
+            .into_iter()
+            .take(count)
+            .collect();
         Ok(Policy { args_start, sids })
     }
 
@@ -474,11 +534,17 @@ impl Table {
             return Err(Unsound::Length);
         }
         let table = Table {
-            entries: entry_records.map(|r| Entry::decode(r, policies)).collect::<Result<_, _>>()?,
+            entries: entry_records
+                .map(|r| Entry::decode(r, policies))
+                .collect::<Result<_, _>>()?,
             rules: rule_records.map(Rule::decode).collect::<Result<_, _>>()?,
-            policies: policy_records.map(Policy::decode).collect::<Result<_, _>>()?,
+            policies: policy_records
+                .map(Policy::decode)
+                .collect::<Result<_, _>>()?,
         };
-        if has_twice(table.entries.iter().map(|e| e.prefix)) || has_twice(table.rules.iter().map(|r| r.prefix)) {
+        if has_twice(table.entries.iter().map(|e| e.prefix))
+            || has_twice(table.rules.iter().map(|r| r.prefix))
+        {
             return Err(Unsound::PrefixTwice);
         }
         Ok(table)
@@ -499,14 +565,21 @@ impl Table {
 
     /// Longest match wins; row 4.
     pub fn entry_for(&self, destination: u128) -> Result<&Entry, Refusal> {
-        let matching = self.entries.iter().filter(|e| e.prefix.matches(destination));
-        matching.max_by_key(|e| e.prefix.length).ok_or(Refusal::NoMatch)
+        let matching = self
+            .entries
+            .iter()
+            .filter(|e| e.prefix.matches(destination));
+        matching
+            .max_by_key(|e| e.prefix.length)
+            .ok_or(Refusal::NoMatch)
     }
 
     /// Longest match wins; row 4.
     pub fn rule_for(&self, destination: u32) -> Result<&Rule, Refusal> {
         let matching = self.rules.iter().filter(|r| r.prefix.matches(destination));
-        matching.max_by_key(|r| r.prefix.length).ok_or(Refusal::NoMatch)
+        matching
+            .max_by_key(|r| r.prefix.length)
+            .ok_or(Refusal::NoMatch)
     }
 }
 
@@ -514,7 +587,10 @@ impl Table {
 mod tests {
     use super::*;
 
-    const SESSION: Session = Session { direction: Direction::Downlink, session_type: SessionType::Ipv6 };
+    const SESSION: Session = Session {
+        direction: Direction::Downlink,
+        session_type: SessionType::Ipv6,
+    };
 
     fn sample() -> Table {
         let entry = |address: u128, length: u8, behaviour| Entry {
@@ -527,9 +603,32 @@ mod tests {
         let places = Ipv4Places { p: 6, q: 8 };
         Table {
             entries: vec![
-                entry(base, 64, Behaviour::E6 { session: SESSION, args_start: 8, source_port: 1 }),
-                entry(base, 48, Behaviour::E4 { session: SESSION, places, source_port: 1 }),
-                entry(base, 128, Behaviour::D { session: SESSION, policy: 0 }),
+                entry(
+                    base,
+                    64,
+                    Behaviour::E6 {
+                        session: SESSION,
+                        args_start: 8,
+                        source_port: 1,
+                    },
+                ),
+                entry(
+                    base,
+                    48,
+                    Behaviour::E4 {
+                        session: SESSION,
+                        places,
+                        source_port: 1,
+                    },
+                ),
+                entry(
+                    base,
+                    128,
+                    Behaviour::D {
+                        session: SESSION,
+                        policy: 0,
+                    },
+                ),
                 entry(0, 0, Behaviour::End),
             ],
             rules: vec![Rule {
@@ -541,7 +640,10 @@ mod tests {
                 source_prefix: 0x2001_0db8_000d << 80,
                 waypoints: vec![1, 2],
             }],
-            policies: vec![Policy { args_start: 11, sids: vec![9] }],
+            policies: vec![Policy {
+                args_start: 11,
+                sids: vec![9],
+            }],
         }
     }
 
@@ -549,7 +651,10 @@ mod tests {
     fn encodes_and_decodes() {
         let table = sample();
         assert_eq!(Table::decode(&table.encode()), Ok(table));
-        assert_eq!(Table::decode(&Table::default().encode()), Ok(Table::default()));
+        assert_eq!(
+            Table::decode(&Table::default().encode()),
+            Ok(Table::default())
+        );
         assert_eq!(Table::decode(&[]), Err(Unsound::Length));
     }
 
@@ -633,9 +738,38 @@ mod tests {
             assert_eq!(Table::decode(&octets), Err(why), "octet {at} as {value}");
         }
         // Not used by the kind, or spare.
-        let of_entries = [e6 + 5, e6 + 7, e6 + 8, e6 + 12, e6 + 48, e4 + 5, e4 + 6, d + 6, d + 7, d + 8, d + 10];
-        let of_end = [end + 3, end + 4, end + 5, end + 6, end + 7, end + 8, end + 10];
-        let others = [1, 8, 15, rule + 12, rule + 80, policy + 3, policy + 32, policy + 144];
+        let of_entries = [
+            e6 + 5,
+            e6 + 7,
+            e6 + 8,
+            e6 + 12,
+            e6 + 48,
+            e4 + 5,
+            e4 + 6,
+            d + 6,
+            d + 7,
+            d + 8,
+            d + 10,
+        ];
+        let of_end = [
+            end + 3,
+            end + 4,
+            end + 5,
+            end + 6,
+            end + 7,
+            end + 8,
+            end + 10,
+        ];
+        let others = [
+            1,
+            8,
+            15,
+            rule + 12,
+            rule + 80,
+            policy + 3,
+            policy + 32,
+            policy + 144,
+        ];
         for at in of_entries.into_iter().chain(of_end).chain(others) {
             let mut octets = good.clone();
             octets[at] = 255;
@@ -662,10 +796,17 @@ mod tests {
             let mut table = Table::default();
             for i in 0..entries {
                 let prefix = Ipv6Prefix::of(u128::from(i), 128);
-                table.entries.push(Entry { prefix, behaviour: Behaviour::End, ..sample.entries[0] });
+                table.entries.push(Entry {
+                    prefix,
+                    behaviour: Behaviour::End,
+                    ..sample.entries[0]
+                });
             }
             for i in 0..rules {
-                table.rules.push(Rule { prefix: Ipv4Prefix::of(i, 32), ..sample.rules[0].clone() });
+                table.rules.push(Rule {
+                    prefix: Ipv4Prefix::of(i, 32),
+                    ..sample.rules[0].clone()
+                });
             }
             for _ in 0..policies {
                 table.policies.push(sample.policies[0].clone());

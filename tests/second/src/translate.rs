@@ -40,17 +40,30 @@ fn ipv6(octets: &[u8], table: &[u8], room: usize) -> Result<Vec<u8>, Refusal> {
     let packet = Ipv6Packet::parse(octets)?;
     let entry = table.entry_for(packet.destination)?;
     let chain = HeaderChain::parse(&packet)?;
-    let arriving = Arriving { octets, packet, chain, entry };
+    let arriving = Arriving {
+        octets,
+        packet,
+        chain,
+        entry,
+    };
     let outgoing = match entry.behaviour {
         Behaviour::End => Outgoing::Advanced(arriving.end()?),
-        Behaviour::D { session, policy } => Outgoing::Sr(arriving.d(session, &table.policies[policy])?),
-        Behaviour::Di { session, policy } => Outgoing::Sr(arriving.di(session, &table.policies[policy])?),
-        Behaviour::E6 { session, args_start, source_port } => {
-            Outgoing::Gtp6(arriving.e6(session, args_start, source_port)?)
+        Behaviour::D { session, policy } => {
+            Outgoing::Sr(arriving.d(session, &table.policies[policy])?)
         }
-        Behaviour::E4 { session, places, source_port } => {
-            Outgoing::Gtp4(arriving.e4(session, places, source_port)?)
+        Behaviour::Di { session, policy } => {
+            Outgoing::Sr(arriving.di(session, &table.policies[policy])?)
         }
+        Behaviour::E6 {
+            session,
+            args_start,
+            source_port,
+        } => Outgoing::Gtp6(arriving.e6(session, args_start, source_port)?),
+        Behaviour::E4 {
+            session,
+            places,
+            source_port,
+        } => Outgoing::Gtp4(arriving.e4(session, places, source_port)?),
     };
     outgoing.encode(room)
 }
@@ -71,11 +84,20 @@ struct Decapsulated<'a> {
 }
 
 /// Rows 8 to 14.
-fn decapsulate(protocol: u8, upper: &[u8], session: Session, stray: Refusal) -> Result<Decapsulated<'_>, Refusal> {
+fn decapsulate(
+    protocol: u8,
+    upper: &[u8],
+    session: Session,
+    stray: Refusal,
+) -> Result<Decapsulated<'_>, Refusal> {
     let payload = udp::gtpu_payload(protocol, upper, stray)?;
     let gtpu::GPdu { args, inner } = gtpu::parse(payload, session.direction)?;
     let next_header = session.session_type.next_header_of(inner)?;
-    Ok(Decapsulated { args, next_header, inner })
+    Ok(Decapsulated {
+        args,
+        next_header,
+        inner,
+    })
 }
 
 /// A packet in the IPv6 call with its entry.
@@ -97,7 +119,10 @@ impl<'a> Arriving<'a, '_> {
             hop_limit: self.packet.hop_limit,
         };
         let state = advance(arriving, &srh)?.ok_or(upper_layer_error)?;
-        Ok(Advanced { packet: self.octets, state })
+        Ok(Advanced {
+            packet: self.octets,
+            state,
+        })
     }
 
     /// End.M.GTP6.D (RFC 9433, 6.3).
@@ -115,7 +140,12 @@ impl<'a> Arriving<'a, '_> {
     }
 
     /// End.M.GTP6.E (RFC 9433, 6.5).
-    fn e6(&self, session: Session, args_start: u8, source_port: u16) -> Result<Gtp6Packet<'a>, Refusal> {
+    fn e6(
+        &self,
+        session: Session,
+        args_start: u8,
+        source_port: u16,
+    ) -> Result<Gtp6Packet<'a>, Refusal> {
         let srh = self.chain.srh.ok_or(Refusal::HeaderChain)?;
         if srh.segments_left != 1 || !srh.last_entry_is_held() {
             return Err(Refusal::SegmentsLeft);
@@ -133,7 +163,12 @@ impl<'a> Arriving<'a, '_> {
     }
 
     /// End.M.GTP4.E (RFC 9433, 6.6).
-    fn e4(&self, session: Session, places: Ipv4Places, source_port: u16) -> Result<Gtp4Packet<'a>, Refusal> {
+    fn e4(
+        &self,
+        session: Session,
+        places: Ipv4Places,
+        source_port: u16,
+    ) -> Result<Gtp4Packet<'a>, Refusal> {
         self.require_segments_left_0()?;
         let args = ArgsMobSession::read(self.packet.destination, places.p + 4);
         Ok(Gtp4Packet {
@@ -155,7 +190,12 @@ impl<'a> Arriving<'a, '_> {
 
     fn decapsulate(&self, session: Session) -> Result<Decapsulated<'a>, Refusal> {
         self.require_segments_left_0()?;
-        decapsulate(self.chain.protocol, self.chain.upper, session, self.chain.upper_layer_error())
+        decapsulate(
+            self.chain.protocol,
+            self.chain.upper,
+            session,
+            self.chain.upper_layer_error(),
+        )
     }
 
     fn sr_packet(&self, segments: Vec<u128>, user: Decapsulated<'a>) -> SrPacket<'a> {
@@ -171,11 +211,21 @@ impl<'a> Arriving<'a, '_> {
     }
 
     /// Row 8 at E6 and E4; the inner packet is not examined.
-    fn tunnel(&self, session: Session, source_port: u16, args: ArgsMobSession) -> Result<Tunnel<'a>, Refusal> {
+    fn tunnel(
+        &self,
+        session: Session,
+        source_port: u16,
+        args: ArgsMobSession,
+    ) -> Result<Tunnel<'a>, Refusal> {
         if !session.session_type.admits(self.chain.protocol) {
             return Err(self.chain.upper_layer_error());
         }
-        Ok(Tunnel { source_port, direction: session.direction, args, inner: self.chain.upper })
+        Ok(Tunnel {
+            source_port,
+            direction: session.direction,
+            args,
+            inner: self.chain.upper,
+        })
     }
 }
 
@@ -192,7 +242,11 @@ fn advance(state: RoutingState, srh: &Srh) -> Result<Option<RoutingState>, Refus
         return Err(Refusal::SegmentsLeft);
     }
     let destination = srh.segment(segments_left).ok_or(Refusal::SegmentsLeft)?;
-    Ok(Some(RoutingState { segments_left, destination, hop_limit: state.hop_limit - 1 }))
+    Ok(Some(RoutingState {
+        segments_left,
+        destination,
+        hop_limit: state.hop_limit - 1,
+    }))
 }
 
 /// The policy's SIDs in order of travel, Args in the last.
@@ -206,9 +260,16 @@ fn policy_segments(policy: &Policy, args: ArgsMobSession) -> Vec<u128> {
 
 /// H.M.GTP4.D (RFC 9433, 6.7).
 fn d4<'a>(packet: &Ipv4Packet<'a>, rule: &Rule) -> Result<SrPacket<'a>, Refusal> {
-    let user = decapsulate(packet.protocol, packet.payload, rule.session, Refusal::NotGtpu)?;
+    let user = decapsulate(
+        packet.protocol,
+        packet.payload,
+        rule.session,
+        Refusal::NotGtpu,
+    )?;
     let Ipv4Places { p, q } = rule.places;
-    let sid = user.args.place(with_ipv4(rule.sid_prefix, packet.destination, p), p + 4);
+    let sid = user
+        .args
+        .place(with_ipv4(rule.sid_prefix, packet.destination, p), p + 4);
     let source = with_ipv4(rule.source_prefix, packet.source, q);
     let (destination, segments) = match rule.waypoints.first() {
         None => (sid, Vec::new()),
@@ -245,9 +306,15 @@ mod tests {
 
     #[test]
     fn ipv4_behind_a_prefix() {
-        assert_eq!(with_ipv4(0x2001_0db8_000d << 80, 0xc633_6407, 8), 0x2001_0db8_000d_0000_c633_6407_0000_0000);
+        assert_eq!(
+            with_ipv4(0x2001_0db8_000d << 80, 0xc633_6407, 8),
+            0x2001_0db8_000d_0000_c633_6407_0000_0000
+        );
         for octets in 0..=12 {
-            assert_eq!(ipv4_in(with_ipv4(0, 0xc000_0201, octets), octets), 0xc000_0201);
+            assert_eq!(
+                ipv4_in(with_ipv4(0, 0xc000_0201, octets), octets),
+                0xc000_0201
+            );
         }
         assert_eq!(with_ipv4(0, 0xc000_0201, 12), 0xc000_0201);
     }

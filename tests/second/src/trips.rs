@@ -5,7 +5,7 @@
 //! by the code under test.
 
 use crate::answer::Answer;
-use crate::generate::packets::{self, Draft, Ipv4Draft, Ipv6Draft, IpDraft, SrhDraft, UpperDraft};
+use crate::generate::packets::{self, Draft, IpDraft, Ipv4Draft, Ipv6Draft, SrhDraft, UpperDraft};
 use crate::generate::{tables, translate, Call};
 use crate::rng::Rng;
 use crate::table::{
@@ -37,7 +37,10 @@ pub struct Stop {
 pub enum End {
     Arrives(Vec<u8>),
     /// The trip ends at this stop with this answer number.
-    Refused { stop: usize, number: u8 },
+    Refused {
+        stop: usize,
+        number: u8,
+    },
 }
 
 #[derive(Clone, Debug)]
@@ -61,11 +64,19 @@ impl Trip {
     }
 
     /// The same with another implementation, which gives the packed answer.
-    pub fn check_by(&self, mut run: impl FnMut(Call, &[u8], &[u8], &mut [u8]) -> u64) -> Result<(), String> {
+    pub fn check_by(
+        &self,
+        mut run: impl FnMut(Call, &[u8], &[u8], &mut [u8]) -> u64,
+    ) -> Result<(), String> {
         let mut rng = Rng::new(self.buffer_seed);
-        let mut buffers: Vec<Vec<u8>> = self.stops.iter().map(|stop| rng.octets(stop.room)).collect();
+        let mut buffers: Vec<Vec<u8>> = self
+            .stops
+            .iter()
+            .map(|stop| rng.octets(stop.room))
+            .collect();
         let mut travel = |packet: &[u8], name: &str| {
-            self.travel(packet, &mut buffers, &mut run).map_err(|why| format!("{name}: {why}"))
+            self.travel(packet, &mut buffers, &mut run)
+                .map_err(|why| format!("{name}: {why}"))
         };
         let came_out = travel(&self.packet, "first trip")?;
         travel(&self.packet, "second trip of the same packet")?;
@@ -89,12 +100,22 @@ impl Trip {
                 if *buffer != before {
                     return Err(format!("stop {index}: refused and yet wrote"));
                 }
-                let wanted = End::Refused { stop: index, number: answer.number };
-                return if self.end == wanted { Ok(None) } else { Err(format!("stop {index}: answer {answer:?}")) };
+                let wanted = End::Refused {
+                    stop: index,
+                    number: answer.number,
+                };
+                return if self.end == wanted {
+                    Ok(None)
+                } else {
+                    Err(format!("stop {index}: answer {answer:?}"))
+                };
             }
             let length = answer.length as usize;
             if length != stop.length || length > buffer.len() {
-                return Err(format!("stop {index}: length {length}, not {}", stop.length));
+                return Err(format!(
+                    "stop {index}: length {length}, not {}",
+                    stop.length
+                ));
             }
             if buffer[length..] != before[length..] {
                 return Err(format!("stop {index}: wrote past the packet sent"));
@@ -107,7 +128,9 @@ impl Trip {
                 let place = wanted.iter().zip(&current).position(|(a, b)| a != b);
                 Err(format!("what came out differs, first at {place:?}"))
             }
-            End::Refused { stop, number } => Err(format!("arrived, but stop {stop} should answer {number}")),
+            End::Refused { stop, number } => {
+                Err(format!("arrived, but stop {stop} should answer {number}"))
+            }
         }
     }
 }
@@ -116,7 +139,11 @@ impl Trip {
 pub fn trip(seed: u64, index: u64) -> Trip {
     let mut rng = Rng::for_case(seed, index);
     let rng = &mut rng;
-    let mut trip = if index % 2 == 0 { trip6(rng) } else { trip4(rng) };
+    let mut trip = if index.is_multiple_of(2) {
+        trip6(rng)
+    } else {
+        trip4(rng)
+    };
     // A few trips end early: a buffer too short at one stop.
     if rng.chance(4) && matches!(trip.end, End::Arrives(_)) {
         let stop = rng.below(trip.stops.len());
@@ -146,7 +173,11 @@ fn table_with(rng: &mut Rng, address: u128, entry: Entry, policies: Vec<Policy>)
     let rule_address = rng.u32();
     let rule_count = rng.below(3);
     let rules = tables::nested_rules(rng, rule_address, rule_count);
-    let table = Table { entries, rules, policies };
+    let table = Table {
+        entries,
+        rules,
+        policies,
+    };
     let mut octets = table.encode();
     if rng.chance(50) {
         tables::fill_unused(rng, &table, &mut octets);
@@ -159,12 +190,22 @@ fn waypoint_stop(rng: &mut Rng, sid: u128, length: usize) -> Stop {
     let entry = tables::entry(rng, prefix, Behaviour::End);
     let policies = (0..rng.below(3)).map(|_| tables::policy(rng)).collect();
     let table = table_with(rng, sid, entry, policies);
-    Stop { call: Call::Ipv6, table, length, room: room(rng, length) }
+    Stop {
+        call: Call::Ipv6,
+        table,
+        length,
+        room: room(rng, length),
+    }
 }
 
 fn far_stop(rng: &mut Rng, sid: u128, far: Entry, length: usize) -> Stop {
     let policies = (0..rng.below(3)).map(|_| tables::policy(rng)).collect();
-    Stop { call: Call::Ipv6, table: table_with(rng, sid, far, policies), length, room: room(rng, length) }
+    Stop {
+        call: Call::Ipv6,
+        table: table_with(rng, sid, far, policies),
+        length,
+        room: room(rng, length),
+    }
 }
 
 fn room(rng: &mut Rng, length: usize) -> usize {
@@ -173,7 +214,11 @@ fn room(rng: &mut Rng, length: usize) -> usize {
 
 /// One trip in a hundred carries the longest inner packet that passes.
 fn inner(rng: &mut Rng, session: Session, most: usize) -> Vec<u8> {
-    let mut inner = if rng.chance(1) { rng.octets(most) } else { packets::small_inner(rng) };
+    let mut inner = if rng.chance(1) {
+        rng.octets(most)
+    } else {
+        packets::small_inner(rng)
+    };
     if session.session_type == SessionType::Ipv4v6 {
         packets::set_nibble(rng, &mut inner);
     }
@@ -204,7 +249,13 @@ impl Values {
     /// Args, octet by octet.
     fn args(&self) -> [u8; 5] {
         let [a, b, c, d] = self.teid.to_be_bytes();
-        [self.qfi * 4 + if self.reflective { 2 } else { 0 }, a, b, c, d]
+        [
+            self.qfi * 4 + if self.reflective { 2 } else { 0 },
+            a,
+            b,
+            c,
+            d,
+        ]
     }
 
     /// UDP and GTP-U from these values.
@@ -217,7 +268,11 @@ impl Values {
         octets.extend(((8 + inner_length) as u16).to_be_bytes());
         octets.extend(self.teid.to_be_bytes());
         octets.extend([0, 0, 0, 0x85, 0x01]);
-        octets.push(if direction == Direction::Uplink { 0x10 } else { 0x00 });
+        octets.push(if direction == Direction::Uplink {
+            0x10
+        } else {
+            0x00
+        });
         octets.push(self.qfi + if self.reflective { 0x40 } else { 0 });
         octets.push(0);
         octets.extend(&self.inner);
@@ -233,9 +288,14 @@ fn put(address: u128, at: u8, octets: &[u8]) -> u128 {
 
 fn trip6(rng: &mut Rng) -> Trip {
     let session = tables::session(rng);
-    let sids: Vec<u128> = (0..rng.between(1, MAX_SIDS)).map(|_| tables::address(rng)).collect();
+    let sids: Vec<u128> = (0..rng.between(1, MAX_SIDS))
+        .map(|_| tables::address(rng))
+        .collect();
     let waypoints = sids.len() - 1;
-    let policy = Policy { args_start: tables::args_start(rng), sids };
+    let policy = Policy {
+        args_start: tables::args_start(rng),
+        sids,
+    };
     let destination = tables::address(rng);
     let (hop_limit, spent_at) = near_hop_limit(rng, waypoints);
 
@@ -251,7 +311,11 @@ fn trip6(rng: &mut Rng) -> Trip {
     };
     let srh_length = 8 + 16 * (policy.sids.len() + 1);
     gtpu.inner.clear();
-    let mut draft = Draft { ip: IpDraft::V6(header), protocol: 17, upper: UpperDraft::Gtpu(gtpu) };
+    let mut draft = Draft {
+        ip: IpDraft::V6(header),
+        protocol: 17,
+        upper: UpperDraft::Gtpu(gtpu),
+    };
     let most = (65_535 - srh_length).min(65_575 - draft.overhead());
     *draft.inner() = inner(rng, session, most);
     let packet = draft.assemble().octets;
@@ -268,11 +332,19 @@ fn trip6(rng: &mut Rng) -> Trip {
         prefix: Ipv6Prefix::of(destination, rng.between(0, 128) as u8),
         hop_limit,
         source: rng.u128(),
-        behaviour: Behaviour::Di { session, policy: place },
+        behaviour: Behaviour::Di {
+            session,
+            policy: place,
+        },
     };
     let sr_length = 40 + srh_length + values.inner.len();
     let near_table = table_with(rng, destination, near, policies);
-    let mut stops = vec![Stop { call: Call::Ipv6, table: near_table, length: sr_length, room: room(rng, sr_length) }];
+    let mut stops = vec![Stop {
+        call: Call::Ipv6,
+        table: near_table,
+        length: sr_length,
+        room: room(rng, sr_length),
+    }];
 
     // Waypoints: the policy's SIDs but the last.
     let last = policy.sids[waypoints];
@@ -284,11 +356,20 @@ fn trip6(rng: &mut Rng) -> Trip {
     let arriving = put(last, policy.args_start, &values.args());
     let source_port = rng.u16();
     let prefix_length = rng.between(0, 8 * usize::from(policy.args_start)) as u8;
-    let behaviour = Behaviour::E6 { session, args_start: policy.args_start, source_port };
+    let behaviour = Behaviour::E6 {
+        session,
+        args_start: policy.args_start,
+        source_port,
+    };
     let far = tables::entry(rng, Ipv6Prefix::of(last, prefix_length), behaviour);
     stops.push(far_stop(rng, arriving, far, 64 + values.inner.len()));
 
-    let mut wanted = vec![0x60 | values.traffic_class >> 4, values.traffic_class << 4, 0, 0];
+    let mut wanted = vec![
+        0x60 | values.traffic_class >> 4,
+        values.traffic_class << 4,
+        0,
+        0,
+    ];
     wanted.extend(((24 + values.inner.len()) as u16).to_be_bytes());
     wanted.extend([17, far.hop_limit]);
     wanted.extend(far.source.to_be_bytes());
@@ -301,7 +382,10 @@ fn trip4(rng: &mut Rng) -> Trip {
     let destination = rng.u32();
     let source = rng.u32();
     let prefix_length = rng.between(0, 32) as u8;
-    let mut rule = tables::rule(rng, crate::table::Ipv4Prefix::of(destination, prefix_length));
+    let mut rule = tables::rule(
+        rng,
+        crate::table::Ipv4Prefix::of(destination, prefix_length),
+    );
     let waypoints = rng.between(0, MAX_WAYPOINTS);
     rule.waypoints = (0..waypoints).map(|_| tables::address(rng)).collect();
     let (hop_limit, spent_at) = near_hop_limit(rng, waypoints);
@@ -320,26 +404,49 @@ fn trip4(rng: &mut Rng) -> Trip {
         options: Vec::new(),
     };
     let tos = header.tos;
-    let srh_length = if waypoints == 0 { 0 } else { 8 + 16 * (waypoints + 1) };
-    let mut draft = Draft { ip: IpDraft::V4(header), protocol: 17, upper: UpperDraft::Gtpu(gtpu) };
+    let srh_length = if waypoints == 0 {
+        0
+    } else {
+        8 + 16 * (waypoints + 1)
+    };
+    let mut draft = Draft {
+        ip: IpDraft::V4(header),
+        protocol: 17,
+        upper: UpperDraft::Gtpu(gtpu),
+    };
     let most = (65_535 - srh_length).min(65_535 - draft.overhead());
     *draft.inner() = inner(rng, session, most);
     let packet = draft.assemble().octets;
-    let UpperDraft::Gtpu(gtpu) = &draft.upper else { unreachable!("a draft around GTP-U") };
+    let UpperDraft::Gtpu(gtpu) = &draft.upper else {
+        unreachable!("a draft around GTP-U")
+    };
     let values = Values::of(tos, gtpu, session.direction);
 
     // Near gateway: the rule among shorter ones and ones that miss.
     let (p, q) = (rule.places.p, rule.places.q);
     let mut rules = tables::nested_rules(rng, destination, 3);
     rules.retain(|r| r.prefix.length < rule.prefix.length || !r.prefix.matches(destination));
-    let sid = put(put(rule.sid_prefix, p, &destination.to_be_bytes()), p + 4, &values.args());
+    let sid = put(
+        put(rule.sid_prefix, p, &destination.to_be_bytes()),
+        p + 4,
+        &values.args(),
+    );
     let sids = rule.waypoints.clone();
     rules.push(rule);
     rng.shuffle(&mut rules);
     let entries = tables::nested_entries(rng, None, 3, 0);
-    let near = Table { entries, rules, policies: Vec::new() };
+    let near = Table {
+        entries,
+        rules,
+        policies: Vec::new(),
+    };
     let sr_length = 40 + srh_length + values.inner.len();
-    let mut stops = vec![Stop { call: Call::Ipv4, table: near.encode(), length: sr_length, room: room(rng, sr_length) }];
+    let mut stops = vec![Stop {
+        call: Call::Ipv4,
+        table: near.encode(),
+        length: sr_length,
+        room: room(rng, sr_length),
+    }];
     for sid in sids {
         stops.push(waypoint_stop(rng, sid, sr_length));
     }
@@ -348,8 +455,19 @@ fn trip4(rng: &mut Rng) -> Trip {
     let source_port = rng.u16();
     let places = crate::table::Ipv4Places { p, q };
     let prefix_length = rng.between(0, 8 * usize::from(p)) as u8;
-    let behaviour = Behaviour::E4 { session, places, source_port };
-    let far = tables::entry(rng, Ipv6Prefix { bits: sid & mask6(prefix_length.into()), length: prefix_length }, behaviour);
+    let behaviour = Behaviour::E4 {
+        session,
+        places,
+        source_port,
+    };
+    let far = tables::entry(
+        rng,
+        Ipv6Prefix {
+            bits: sid & mask6(prefix_length.into()),
+            length: prefix_length,
+        },
+        behaviour,
+    );
     stops.push(far_stop(rng, sid, far, 44 + values.inner.len()));
 
     let mut wanted = vec![0x45, tos];
@@ -357,7 +475,10 @@ fn trip4(rng: &mut Rng) -> Trip {
     wanted.extend([0, 0, 0x40, 0, far.hop_limit, 17, 0, 0]);
     wanted.extend(source.to_be_bytes());
     wanted.extend(destination.to_be_bytes());
-    let sum: u32 = wanted.chunks(2).map(|pair| u32::from(pair[0]) * 256 + u32::from(pair[1])).sum();
+    let sum: u32 = wanted
+        .chunks(2)
+        .map(|pair| u32::from(pair[0]) * 256 + u32::from(pair[1]))
+        .sum();
     let folded = sum % 65_535;
     // No sum of such a header is 0, so 0 stands for FFFF.
     let checksum = if folded == 0 { 0 } else { 65_535 - folded };
@@ -376,10 +497,19 @@ fn finish(
 ) -> Trip {
     let end = match spent_at {
         // Stop 0 is the near gateway.
-        Some(waypoint) => End::Refused { stop: waypoint + 1, number: 6 },
+        Some(waypoint) => End::Refused {
+            stop: waypoint + 1,
+            number: 6,
+        },
         None => End::Arrives(wanted),
     };
-    Trip { family, packet, stops, end, buffer_seed: rng.u64() }
+    Trip {
+        family,
+        packet,
+        stops,
+        end,
+        buffer_seed: rng.u64(),
+    }
 }
 
 /// Trips run, by family and number of waypoints.
@@ -399,7 +529,9 @@ pub fn run(seed: u64, cases: u64) -> Result<Tally, String> {
             Family::Ipv4 => (1, "D4 to E4"),
         };
         let waypoints = trip.waypoints();
-        trip.check().map_err(|why| format!("seed {seed} trip {index} ({name}, {waypoints} waypoints): {why}"))?;
+        trip.check().map_err(|why| {
+            format!("seed {seed} trip {index} ({name}, {waypoints} waypoints): {why}")
+        })?;
         match trip.end {
             End::Arrives(_) => tally.arrived[family][waypoints] += 1,
             End::Refused { .. } => tally.ended_early[family][waypoints] += 1,
@@ -415,7 +547,10 @@ mod tests {
     #[test]
     fn trips_arrive() {
         let tally = run(7, 400).unwrap();
-        assert!(tally.arrived.iter().flatten().all(|&count| count > 0), "{tally:?}");
+        assert!(
+            tally.arrived.iter().flatten().all(|&count| count > 0),
+            "{tally:?}"
+        );
     }
 
     #[test]

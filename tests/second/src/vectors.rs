@@ -4,9 +4,22 @@
 use crate::answer::Answer;
 use crate::generate::{self, Call, Case, Kind};
 
-/// The smallest packet that can answer 15: 65,492 inner octets at E4, fewer
-/// segments' worth less at D, Di and D4.
-const SMALLEST_TOO_LONG: usize = 65_000;
+/// The smallest packet that can answer 15 at a kind: with 8 SIDs, 7 waypoints,
+/// a container of one unit and no SRH of its own.
+fn smallest_too_long(kind: Kind) -> usize {
+    match kind {
+        Kind::D => 64 + 65_400,
+        Kind::Di => 64 + 65_384,
+        Kind::D4 => 44 + 65_400,
+        Kind::E4 => 40 + 65_492,
+        Kind::Waypoint | Kind::E6 => usize::MAX,
+    }
+}
+
+/// Whether 15 can occur at a kind, but not with packets so short.
+pub fn leaves_out_15(kind: Kind, max_packet: usize) -> bool {
+    kind.numbers().contains(&15) && max_packet < smallest_too_long(kind)
+}
 
 /// More room than any case has.
 const LARGEST_ROOM: usize = 1 << 24;
@@ -47,19 +60,28 @@ fn unhex(text: &str) -> Option<Vec<u8>> {
     if text == "-" {
         return Some(Vec::new());
     }
-    let digits: Vec<u8> = text.chars().map(|c| c.to_digit(16).map(|d| d as u8)).collect::<Option<_>>()?;
+    let digits: Vec<u8> = text
+        .chars()
+        .map(|c| c.to_digit(16).map(|d| d as u8))
+        .collect::<Option<_>>()?;
     let pairs = digits.chunks_exact(2);
-    pairs.remainder().is_empty().then(|| pairs.map(|pair| pair[0] << 4 | pair[1]).collect())
+    pairs
+        .remainder()
+        .is_empty()
+        .then(|| pairs.map(|pair| pair[0] << 4 | pair[1]).collect())
 }
 
 /// The case of a line; its notes are lost.
 pub fn parse(line: &str) -> Result<Case, String> {
     let fields: Vec<&str> = line.split(' ').collect();
-    let &[kind, call, number, icmp_type, icmp_code, icmp_pointer, length, room, packet, table, sent] = &fields[..] else {
+    let &[kind, call, number, icmp_type, icmp_code, icmp_pointer, length, room, packet, table, sent] =
+        &fields[..]
+    else {
         return Err(format!("{} fields, not 11", fields.len()));
     };
     fn number_of<T: std::str::FromStr>(text: &str) -> Result<T, String> {
-        text.parse().map_err(|_| format!("{text} is not a number of its field"))
+        text.parse()
+            .map_err(|_| format!("{text} is not a number of its field"))
     }
     let room: usize = number_of(room)?;
     if room > LARGEST_ROOM {
@@ -68,7 +90,10 @@ pub fn parse(line: &str) -> Result<Case, String> {
     let octets_of = |text: &str| unhex(text).ok_or_else(|| format!("{text} is not hex"));
     let (length, sent): (u32, Vec<u8>) = (number_of(length)?, octets_of(sent)?);
     if sent.len() != length as usize || sent.len() > room {
-        return Err(format!("{} octets sent, length {length}, room {room}", sent.len()));
+        return Err(format!(
+            "{} octets sent, length {length}, room {room}",
+            sent.len()
+        ));
     }
     Ok(Case {
         kind: Kind::from_name(kind).ok_or_else(|| format!("{kind} is no kind"))?,
@@ -98,11 +123,20 @@ impl Quota {
     /// About a third sent, the rest spread evenly over the other numbers.
     fn new(kind: Kind, per_kind: u64, max_packet: usize) -> Self {
         let mut wanted = [0; 17];
-        let possible = |number: u8| number != 0 && (number != 15 || max_packet >= SMALLEST_TOO_LONG);
-        let refusals: Vec<u8> = kind.numbers().iter().copied().filter(|&n| possible(n)).collect();
+        let possible =
+            |number: u8| number != 0 && (number != 15 || !leaves_out_15(kind, max_packet));
+        let refusals: Vec<u8> = kind
+            .numbers()
+            .iter()
+            .copied()
+            .filter(|&n| possible(n))
+            .collect();
         let sent = per_kind.div_ceil(3);
         wanted[0] = sent;
-        let (share, extra) = ((per_kind - sent) / refusals.len() as u64, (per_kind - sent) % refusals.len() as u64);
+        let (share, extra) = (
+            (per_kind - sent) / refusals.len() as u64,
+            (per_kind - sent) % refusals.len() as u64,
+        );
         for (place, number) in refusals.iter().enumerate() {
             wanted[usize::from(*number)] = share + u64::from((place as u64) < extra);
         }
@@ -123,8 +157,16 @@ impl Quota {
 
 /// `per_kind` cases of each kind with their indices, from the cases of a seed
 /// in their order. An error if they do not come up within `tries` cases.
-pub fn select(seed: u64, per_kind: u64, max_packet: usize, tries: u64) -> Result<Vec<(u64, Case)>, String> {
-    let mut quotas: Vec<Quota> = Kind::ALL.iter().map(|&kind| Quota::new(kind, per_kind, max_packet)).collect();
+pub fn select(
+    seed: u64,
+    per_kind: u64,
+    max_packet: usize,
+    tries: u64,
+) -> Result<Vec<(u64, Case)>, String> {
+    let mut quotas: Vec<Quota> = Kind::ALL
+        .iter()
+        .map(|&kind| Quota::new(kind, per_kind, max_packet))
+        .collect();
     let mut selected = Vec::new();
     for index in 0..tries {
         if quotas.iter().all(|q| q.left() == 0) {
@@ -141,14 +183,28 @@ pub fn select(seed: u64, per_kind: u64, max_packet: usize, tries: u64) -> Result
     }
     let missing: Vec<String> = quotas
         .iter()
-        .flat_map(|q| q.wanted.iter().enumerate().map(|(number, &left)| (q.kind.name(), number, left)))
+        .flat_map(|q| {
+            q.wanted
+                .iter()
+                .enumerate()
+                .map(|(number, &left)| (q.kind.name(), number, left))
+        })
         .filter(|&(_, _, left)| left > 0)
         .map(|(kind, number, left)| format!("{kind} number {number}: {left} missing"))
         .collect();
     if !missing.is_empty() {
-        return Err(format!("not found in {tries} cases: {}", missing.join(", ")));
+        return Err(format!(
+            "not found in {tries} cases: {}",
+            missing.join(", ")
+        ));
     }
-    selected.sort_by_key(|(index, case)| (Kind::ALL.iter().position(|&k| k == case.kind), case.answer.number, *index));
+    selected.sort_by_key(|(index, case)| {
+        (
+            Kind::ALL.iter().position(|&k| k == case.kind),
+            case.answer.number,
+            *index,
+        )
+    });
     Ok(selected)
 }
 
@@ -169,7 +225,13 @@ mod tests {
 
     #[test]
     fn wrong_lines() {
-        for line in ["", "D", "X ipv6 0 0 0 0 0 0 - - -", "D ipv6 0 0 0 0 0 0 0 - -", "D ipv6 256 0 0 0 0 0 - - -"] {
+        for line in [
+            "",
+            "D",
+            "X ipv6 0 0 0 0 0 0 - - -",
+            "D ipv6 0 0 0 0 0 0 0 - -",
+            "D ipv6 256 0 0 0 0 0 - - -",
+        ] {
             assert!(parse(line).is_err(), "{line}");
         }
         assert!(parse("D ipv6 1 0 0 0 0 0 - - -").is_ok());
@@ -182,7 +244,13 @@ mod tests {
             assert_eq!(line.split(' ').count(), 11, "index {index}");
             assert!(!line.contains("  "));
             assert!(case.packet.len() <= 400);
-            assert_eq!(parse(&line), Ok(Case { notes: Vec::new(), ..case }));
+            assert_eq!(
+                parse(&line),
+                Ok(Case {
+                    notes: Vec::new(),
+                    ..case
+                })
+            );
         }
     }
 }

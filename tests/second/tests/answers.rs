@@ -19,7 +19,10 @@ const FIRST_SID: u128 = 0xfc00_0010 << 96 | 0xffff_ffff_ffff_ffff;
 const LAST_SID: u128 = 0xfc00_0011 << 96 | 0xffff_ffff_ffff_ffff;
 
 fn session(session_type: SessionType) -> Session {
-    Session { direction: Direction::Downlink, session_type }
+    Session {
+        direction: Direction::Downlink,
+        session_type,
+    }
 }
 
 fn table_with(session_type: SessionType, waypoints: usize) -> Table {
@@ -36,8 +39,22 @@ fn table_with(session_type: SessionType, waypoints: usize) -> Table {
             entry(WAYPOINT, Behaviour::End),
             entry(D, Behaviour::D { session, policy: 0 }),
             entry(DI, Behaviour::Di { session, policy: 0 }),
-            entry(E6, Behaviour::E6 { session, args_start: 8, source_port: 0x1234 }),
-            entry(E4, Behaviour::E4 { session, places, source_port: 0x1234 }),
+            entry(
+                E6,
+                Behaviour::E6 {
+                    session,
+                    args_start: 8,
+                    source_port: 0x1234,
+                },
+            ),
+            entry(
+                E4,
+                Behaviour::E4 {
+                    session,
+                    places,
+                    source_port: 0x1234,
+                },
+            ),
         ],
         rules: vec![Rule {
             prefix: Ipv4Prefix::of(0xc000_0200, 24),
@@ -48,7 +65,10 @@ fn table_with(session_type: SessionType, waypoints: usize) -> Table {
             source_prefix: 0xfd22 << 112,
             waypoints: (0..waypoints as u128).map(|i| FIRST_SID + i).collect(),
         }],
-        policies: vec![Policy { args_start: 8, sids: vec![FIRST_SID, LAST_SID] }],
+        policies: vec![Policy {
+            args_start: 8,
+            sids: vec![FIRST_SID, LAST_SID],
+        }],
     }
 }
 
@@ -66,15 +86,32 @@ fn ipv6(next_header: u8, destination: u128, payload: &[u8]) -> Vec<u8> {
     packet
 }
 
-fn srh(next_header: u8, segments_left: u8, last_entry: u8, segments: &[u128], rest: &[u8]) -> Vec<u8> {
-    let mut octets = vec![next_header, 2 * segments.len() as u8, 4, segments_left, last_entry, 0, 0, 0];
+fn srh(
+    next_header: u8,
+    segments_left: u8,
+    last_entry: u8,
+    segments: &[u128],
+    rest: &[u8],
+) -> Vec<u8> {
+    let mut octets = vec![
+        next_header,
+        2 * segments.len() as u8,
+        4,
+        segments_left,
+        last_entry,
+        0,
+        0,
+        0,
+    ];
     octets.extend(segments.iter().flat_map(|s| s.to_be_bytes()));
     octets.extend(rest);
     octets
 }
 
 fn gtpu(inner: &[u8]) -> Vec<u8> {
-    let mut octets = vec![0x34, 0xff, 0, 0, 1, 2, 3, 4, 0, 0, 0, 0x85, 1, 0x00, 0x49, 0];
+    let mut octets = vec![
+        0x34, 0xff, 0, 0, 1, 2, 3, 4, 0, 0, 0, 0x85, 1, 0x00, 0x49, 0,
+    ];
     octets.extend(inner);
     let length = (octets.len() - 8) as u16;
     octets[2..4].copy_from_slice(&length.to_be_bytes());
@@ -102,7 +139,10 @@ fn ipv4(protocol: u8, destination: [u8; 4], payload: &[u8]) -> Vec<u8> {
 
 fn fix_checksum(packet: &mut [u8]) {
     packet[10..12].fill(0);
-    let mut sum: u32 = packet[..20].chunks(2).map(|p| u32::from(p[0]) << 8 | u32::from(p[1])).sum();
+    let mut sum: u32 = packet[..20]
+        .chunks(2)
+        .map(|p| u32::from(p[0]) << 8 | u32::from(p[1]))
+        .sum();
     while sum > 0xffff {
         sum = (sum >> 16) + (sum & 0xffff);
     }
@@ -132,7 +172,15 @@ fn number4(packet: &[u8], table: &[u8]) -> u8 {
 
 fn assert_icmp(packet: &[u8], wanted: (u8, u8, u8, u16)) {
     let answer = run(Call::Ipv6, packet, &table(), 70_000).0;
-    assert_eq!((answer.number, answer.icmp_type, answer.icmp_code, answer.icmp_pointer), wanted);
+    assert_eq!(
+        (
+            answer.number,
+            answer.icmp_type,
+            answer.icmp_code,
+            answer.icmp_pointer
+        ),
+        wanted
+    );
     assert_eq!(answer.length, 0);
 }
 
@@ -154,7 +202,11 @@ fn octets(parts: &[&[u8]]) -> Vec<u8> {
 fn number_0_d_and_di() {
     let with_args = 0xfc00_0011u128 << 96 | 0x2601_0203_04ff_ffff;
     let header = |length: u8| {
-        octets(&[&[0x6a, 0xb0, 0, 0, 0, length, 43, 33], &(0xfd11u128 << 112 | 1).to_be_bytes(), &FIRST_SID.to_be_bytes()])
+        octets(&[
+            &[0x6a, 0xb0, 0, 0, 0, length, 43, 33],
+            &(0xfd11u128 << 112 | 1).to_be_bytes(),
+            &FIRST_SID.to_be_bytes(),
+        ])
     };
     let wanted = octets(&[
         &header(43),
@@ -163,7 +215,10 @@ fn number_0_d_and_di() {
         &FIRST_SID.to_be_bytes(),
         &INNER,
     ]);
-    assert_eq!(run(Call::Ipv6, &valid6(D), &table(), 100), (Answer::sent(83), wanted));
+    assert_eq!(
+        run(Call::Ipv6, &valid6(D), &table(), 100),
+        (Answer::sent(83), wanted)
+    );
     let wanted = octets(&[
         &header(59),
         &[41, 6, 4, 2, 2, 0, 0, 0],
@@ -172,7 +227,10 @@ fn number_0_d_and_di() {
         &FIRST_SID.to_be_bytes(),
         &INNER,
     ]);
-    assert_eq!(run(Call::Ipv6, &valid6(DI), &table(), 100), (Answer::sent(99), wanted));
+    assert_eq!(
+        run(Call::Ipv6, &valid6(DI), &table(), 100),
+        (Answer::sent(99), wanted)
+    );
 }
 
 #[test]
@@ -183,25 +241,40 @@ fn number_0_e6() {
         &(0xfd11u128 << 112 | 1).to_be_bytes(),
         &NOWHERE.to_be_bytes(),
         &[0x12, 0x34, 0x08, 0x68, 0, 27, 0, 0],
-        &[0x34, 0xff, 0, 11, 1, 2, 3, 4, 0, 0, 0, 0x85, 1, 0x00, 0x49, 0],
+        &[
+            0x34, 0xff, 0, 11, 1, 2, 3, 4, 0, 0, 0, 0x85, 1, 0x00, 0x49, 0,
+        ],
         &INNER,
     ]);
-    assert_eq!(run(Call::Ipv6, &packet, &table(), 67), (Answer::sent(67), wanted));
+    assert_eq!(
+        run(Call::Ipv6, &packet, &table(), 67),
+        (Answer::sent(67), wanted)
+    );
 }
 
 #[test]
 fn number_0_e4() {
     let mut wanted = octets(&[
-        &[0x45, 0xab, 0, 47, 0, 0, 0x40, 0, 33, 17, 0, 0, 198, 51, 100, 7, 192, 0, 2, 1],
+        &[
+            0x45, 0xab, 0, 47, 0, 0, 0x40, 0, 33, 17, 0, 0, 198, 51, 100, 7, 192, 0, 2, 1,
+        ],
         &[0x12, 0x34, 0x08, 0x68, 0, 27, 0, 0],
-        &[0x34, 0xff, 0, 11, 1, 2, 3, 4, 0, 0, 0, 0x85, 1, 0x00, 0x49, 0],
+        &[
+            0x34, 0xff, 0, 11, 1, 2, 3, 4, 0, 0, 0, 0x85, 1, 0x00, 0x49, 0,
+        ],
         &INNER,
     ]);
     fix_checksum(&mut wanted);
     let plain = ipv6(41, E4, &INNER);
-    assert_eq!(run(Call::Ipv6, &plain, &table(), 47), (Answer::sent(47), wanted.clone()));
+    assert_eq!(
+        run(Call::Ipv6, &plain, &table(), 47),
+        (Answer::sent(47), wanted.clone())
+    );
     let routed = ipv6(43, E4, &srh(41, 0, 200, &[E4], &INNER));
-    assert_eq!(run(Call::Ipv6, &routed, &table(), 47), (Answer::sent(47), wanted));
+    assert_eq!(
+        run(Call::Ipv6, &routed, &table(), 47),
+        (Answer::sent(47), wanted)
+    );
 }
 
 #[test]
@@ -225,7 +298,10 @@ fn number_0_d4() {
         &sid.to_be_bytes(),
         &INNER,
     ]);
-    assert_eq!(run(Call::Ipv4, &valid4(), &direct, 100), (Answer::sent(43), wanted));
+    assert_eq!(
+        run(Call::Ipv4, &valid4(), &direct, 100),
+        (Answer::sent(43), wanted)
+    );
     let routed = table_with(SessionType::Ipv6, 1).encode();
     let wanted = octets(&[
         &[0x6a, 0xb0, 0, 0, 0, 43, 43, 44],
@@ -236,7 +312,10 @@ fn number_0_d4() {
         &FIRST_SID.to_be_bytes(),
         &INNER,
     ]);
-    assert_eq!(run(Call::Ipv4, &valid4(), &routed, 100), (Answer::sent(83), wanted));
+    assert_eq!(
+        run(Call::Ipv4, &valid4(), &routed, 100),
+        (Answer::sent(83), wanted)
+    );
 }
 
 #[test]
@@ -262,28 +341,52 @@ fn number_3() {
     let mut packet = valid4();
     packet[1] ^= 1;
     assert_eq!(number4(&packet, &table()), 3);
-    for (octet, value, number) in [(6, 0x20, 3), (6, 0x00, 0), (6, 0x80, 0), (7, 0x01, 3), (6, 0x10, 3), (0, 0x46, 3), (0, 0x44, 3)] {
+    for (octet, value, number) in [
+        (6, 0x20, 3),
+        (6, 0x00, 0),
+        (6, 0x80, 0),
+        (7, 0x01, 3),
+        (6, 0x10, 3),
+        (0, 0x46, 3),
+        (0, 0x44, 3),
+    ] {
         let mut packet = valid4();
         packet[octet] = value;
         fix_checksum(&mut packet);
-        assert_eq!(number4(&packet, &table()), number, "octet {octet} as {value:02x}");
+        assert_eq!(
+            number4(&packet, &table()),
+            number,
+            "octet {octet} as {value:02x}"
+        );
     }
 }
 
 #[test]
 fn number_4() {
     assert_eq!(number6(&valid6(NOWHERE), &table()), 4);
-    assert_eq!(number4(&ipv4(17, [192, 0, 3, 1], &udp(&gtpu(&INNER))), &table()), 4);
+    assert_eq!(
+        number4(&ipv4(17, [192, 0, 3, 1], &udp(&gtpu(&INNER))), &table()),
+        4
+    );
 }
 
 #[test]
 fn number_5() {
     for destination in [WAYPOINT, D, DI, E6, E4] {
         for next_header in [0, 44, 60] {
-            assert_eq!(number6(&ipv6(next_header, destination, &[0; 64]), &table()), 5);
+            assert_eq!(
+                number6(&ipv6(next_header, destination, &[0; 64]), &table()),
+                5
+            );
         }
         for next_header in [0, 43, 44, 60] {
-            assert_eq!(number6(&ipv6(43, destination, &srh(next_header, 1, 0, &[D], &[0; 64])), &table()), 5);
+            assert_eq!(
+                number6(
+                    &ipv6(43, destination, &srh(next_header, 1, 0, &[D], &[0; 64])),
+                    &table()
+                ),
+                5
+            );
         }
         let mut packet = ipv6(43, destination, &srh(41, 1, 0, &[D], &INNER));
         packet[42] = 3;
@@ -311,16 +414,34 @@ fn number_6() {
 fn number_7() {
     let problem = (7, 4, 0, 43);
     for destination in [D, DI, E4] {
-        assert_icmp(&ipv6(43, destination, &srh(17, 1, 0, &[D], &udp(&gtpu(&INNER)))), problem);
+        assert_icmp(
+            &ipv6(43, destination, &srh(17, 1, 0, &[D], &udp(&gtpu(&INNER)))),
+            problem,
+        );
     }
     assert_icmp(&ipv6(43, E6, &srh(41, 0, 0, &[D], &INNER)), problem);
     assert_icmp(&ipv6(43, E6, &srh(41, 1, 1, &[D], &INNER)), problem);
     assert_icmp(&ipv6(43, E6, &srh(41, 1, 0, &[], &INNER)), problem);
     assert_icmp(&ipv6(43, WAYPOINT, &srh(41, 1, 1, &[D], &INNER)), problem);
-    assert_icmp(&ipv6(43, WAYPOINT, &srh(41, 3, 1, &[D, D], &INNER)), problem);
-    assert_eq!(number6(&ipv6(43, WAYPOINT, &srh(41, 2, 1, &[D, D], &INNER)), &table()), 0);
+    assert_icmp(
+        &ipv6(43, WAYPOINT, &srh(41, 3, 1, &[D, D], &INNER)),
+        problem,
+    );
+    assert_eq!(
+        number6(
+            &ipv6(43, WAYPOINT, &srh(41, 2, 1, &[D, D], &INNER)),
+            &table()
+        ),
+        0
+    );
     // LE not tested at D with SL 0.
-    assert_eq!(number6(&ipv6(43, D, &srh(17, 0, 9, &[], &udp(&gtpu(&INNER)))), &table()), 0);
+    assert_eq!(
+        number6(
+            &ipv6(43, D, &srh(17, 0, 9, &[], &udp(&gtpu(&INNER)))),
+            &table()
+        ),
+        0
+    );
 }
 
 #[test]
@@ -330,16 +451,27 @@ fn number_8() {
         let mut packet = valid6(destination);
         packet[43] = 0x69;
         assert_icmp(&packet, (8, 4, 4, 40));
-        assert_icmp(&ipv6(43, destination, &srh(6, 0, 0, &[D], &[])), (8, 4, 4, 64));
+        assert_icmp(
+            &ipv6(43, destination, &srh(6, 0, 0, &[D], &[])),
+            (8, 4, 4, 64),
+        );
     }
     assert_icmp(&ipv6(43, E6, &srh(4, 1, 0, &[D], &INNER)), (8, 4, 4, 64));
     assert_icmp(&ipv6(4, E4, &INNER), (8, 4, 4, 40));
     assert_icmp(&ipv6(41, WAYPOINT, &INNER), (8, 4, 4, 40));
-    assert_icmp(&ipv6(43, WAYPOINT, &srh(41, 0, 0, &[D], &INNER)), (8, 4, 4, 64));
+    assert_icmp(
+        &ipv6(43, WAYPOINT, &srh(41, 0, 0, &[D], &INNER)),
+        (8, 4, 4, 64),
+    );
     let mut packet = valid4();
     packet[23] = 0x69;
     assert_eq!(run(Call::Ipv4, &packet, &table(), 0).0.pack(), 8);
-    assert_eq!(run(Call::Ipv4, &ipv4(6, [192, 0, 2, 1], &INNER), &table(), 0).0.pack(), 8);
+    assert_eq!(
+        run(Call::Ipv4, &ipv4(6, [192, 0, 2, 1], &INNER), &table(), 0)
+            .0
+            .pack(),
+        8
+    );
 }
 
 /// Runs the same UDP octets at D, Di and D4.
@@ -395,7 +527,15 @@ fn number_12() {
 
 #[test]
 fn number_13() {
-    for (octet, value) in [(11, 0), (0, 0x32), (0, 0x31), (0, 0x30), (13, 0x10), (13, 0x20), (13, 0xf0)] {
+    for (octet, value) in [
+        (11, 0),
+        (0, 0x32),
+        (0, 0x31),
+        (0, 0x30),
+        (13, 0x10),
+        (13, 0x20),
+        (13, 0xf0),
+    ] {
         let mut packet = gtpu(&INNER);
         packet[octet] = value;
         assert_eq!(everywhere(&udp(&packet)), [13; 3]);
@@ -406,11 +546,20 @@ fn number_13() {
 #[test]
 fn number_14() {
     let table = table_with(SessionType::Ipv4v6, 1).encode();
-    for (inner, number) in [(&[][..], 14), (&[0x50], 14), (&[0x40], 0), (&[0x60], 0), (&[0x06], 14)] {
+    for (inner, number) in [
+        (&[][..], 14),
+        (&[0x50], 14),
+        (&[0x40], 0),
+        (&[0x60], 0),
+        (&[0x06], 14),
+    ] {
         let datagram = udp(&gtpu(inner));
         assert_eq!(number6(&ipv6(17, D, &datagram), &table), number);
         assert_eq!(number6(&ipv6(17, DI, &datagram), &table), number);
-        assert_eq!(number4(&ipv4(17, [192, 0, 2, 1], &datagram), &table), number);
+        assert_eq!(
+            number4(&ipv4(17, [192, 0, 2, 1], &datagram), &table),
+            number
+        );
     }
     let (_, sent) = run(Call::Ipv6, &ipv6(17, D, &udp(&gtpu(&[0x4f]))), &table, 200);
     assert_eq!(sent[40], 4);
@@ -427,7 +576,12 @@ fn number_15() {
     assert_eq!((d(65_495), d(65_496)), (0, 15));
     let di = |length| number6(&ipv6(17, DI, &udp(&gtpu(&inner(length)))), &table());
     assert_eq!((di(65_479), di(65_480)), (0, 15));
-    let d4 = |length| number4(&ipv4(17, [192, 0, 2, 1], &udp(&gtpu(&inner(length)))), &table());
+    let d4 = |length| {
+        number4(
+            &ipv4(17, [192, 0, 2, 1], &udp(&gtpu(&inner(length)))),
+            &table(),
+        )
+    };
     assert_eq!((d4(65_479), d4(65_480)), (0, 15));
     let e4 = |length| number6(&ipv6(41, E4, &inner(length)), &table());
     assert_eq!((e4(65_491), e4(65_492), e4(65_535)), (0, 15, 15));
@@ -440,7 +594,13 @@ fn number_15() {
 fn number_16() {
     let waypoint = ipv6(43, WAYPOINT, &srh(41, 1, 0, &[D], &INNER));
     let e6 = ipv6(43, E6, &srh(41, 1, 0, &[D], &INNER));
-    for (packet, exact) in [(valid6(D), 83), (valid6(DI), 99), (waypoint, 67), (e6, 67), (ipv6(41, E4, &INNER), 47)] {
+    for (packet, exact) in [
+        (valid6(D), 83),
+        (valid6(DI), 99),
+        (waypoint, 67),
+        (e6, 67),
+        (ipv6(41, E4, &INNER), 47),
+    ] {
         for (room, number) in [(0, 16), (exact - 1, 16), (exact, 0), (exact + 1, 0)] {
             assert_eq!(run(Call::Ipv6, &packet, &table(), room).0.number, number);
         }

@@ -29,7 +29,11 @@ fn any_length(rng: &mut Rng) -> usize {
 fn random_octets() {
     let mut rng = Rng::new(11);
     for _ in 0..3_000 {
-        let (packet, table, room) = (any_length(&mut rng), any_length(&mut rng), any_length(&mut rng));
+        let (packet, table, room) = (
+            any_length(&mut rng),
+            any_length(&mut rng),
+            any_length(&mut rng),
+        );
         let (mut packet, mut table) = (rng.octets(packet), rng.octets(table));
         // Sometimes a header that goes a little further.
         if let (true, Some(first)) = (rng.chance(50), packet.first_mut()) {
@@ -80,6 +84,8 @@ fn every_length() {
 #[test]
 fn generated_cases_hold_over_any_output() {
     for index in 0..6_000 {
-        case(14, index).check().unwrap_or_else(|why| panic!("seed 14 index {index}: {why}"));
+        case(14, index)
+            .check()
+            .unwrap_or_else(|why| panic!("seed 14 index {index}: {why}"));
     }
 }

@@ -10,7 +10,9 @@ use crate::table::{
     Behaviour, Ipv4Prefix, Ipv6Prefix, Table, MAX_ENTRIES, MAX_POLICIES, MAX_RULES,
 };
 
-const NEXT_HEADERS: [u8; 18] = [0, 43, 44, 60, 0, 43, 44, 60, 59, 6, 17, 58, 4, 41, 143, 50, 51, 135];
+const NEXT_HEADERS: [u8; 18] = [
+    0, 43, 44, 60, 0, 43, 44, 60, 59, 6, 17, 58, 4, 41, 143, 50, 51, 135,
+];
 
 /// Takes away what matches, or moves the destination out of the prefix.
 pub fn unmatch(rng: &mut Rng, table: &mut Table, draft: &mut Draft) -> &'static str {
@@ -22,7 +24,9 @@ pub fn unmatch(rng: &mut Rng, table: &mut Table, draft: &mut Draft) -> &'static 
                     return "destination just outside the prefix";
                 }
             }
-            table.entries.retain(|e| !e.prefix.matches(header.destination));
+            table
+                .entries
+                .retain(|e| !e.prefix.matches(header.destination));
         }
         IpDraft::V4(header) => {
             if let (true, Ok(rule)) = (rng.chance(30), table.rule_for(header.destination)) {
@@ -31,7 +35,9 @@ pub fn unmatch(rng: &mut Rng, table: &mut Table, draft: &mut Draft) -> &'static 
                     return "destination just outside the prefix";
                 }
             }
-            table.rules.retain(|r| !r.prefix.matches(header.destination));
+            table
+                .rules
+                .retain(|r| !r.prefix.matches(header.destination));
         }
     }
     "matching entries or rules removed"
@@ -73,7 +79,11 @@ fn ip_part(rng: &mut Rng, draft: &mut Draft) -> Option<&'static str> {
             }
             3 => {
                 let words = rng.between(1, 10);
-                header.options = if rng.chance(50) { vec![1; 4 * words] } else { rng.octets(4 * words) };
+                header.options = if rng.chance(50) {
+                    vec![1; 4 * words]
+                } else {
+                    rng.octets(4 * words)
+                };
                 "options"
             }
             _ => {
@@ -98,19 +108,30 @@ fn srh_part(rng: &mut Rng, draft: &mut Draft) -> Option<&'static str> {
         return Some("SRH added");
     }
     let srh = header.srh.as_mut()?;
-    Some(match choice {
+    let note = match choice {
         1 | 2 => {
             srh.segments_left = rng.pick(&[0, 1, 2, 3, 255]);
             "segments left"
         }
         3 | 4 => {
             let entry = srh.last_entry;
-            srh.segments_left = rng.pick(&[entry.wrapping_add(1), entry.wrapping_add(2), entry, entry.wrapping_add(3)]);
+            srh.segments_left = rng.pick(&[
+                entry.wrapping_add(1),
+                entry.wrapping_add(2),
+                entry,
+                entry.wrapping_add(3),
+            ]);
             "segments left around last entry"
         }
         5 | 6 => {
             let held = srh.segments.len() + srh.tlvs.len() / 16;
-            srh.last_entry = rng.pick(&[held as u8, (held + 1) as u8, held.saturating_sub(1) as u8, 0, 255]);
+            srh.last_entry = rng.pick(&[
+                held as u8,
+                (held + 1) as u8,
+                held.saturating_sub(1) as u8,
+                0,
+                255,
+            ]);
             "last entry"
         }
         7 => {
@@ -127,8 +148,15 @@ fn srh_part(rng: &mut Rng, draft: &mut Draft) -> Option<&'static str> {
         }
         9 => {
             srh.segments = (0..127).map(|_| rng.u128()).collect();
-            srh.tlvs = if rng.chance(50) { rng.octets(8) } else { Vec::new() };
+            srh.tlvs = if rng.chance(50) {
+                rng.octets(8)
+            } else {
+                Vec::new()
+            };
             srh.last_entry = rng.pick(&[126, 127, 3]);
+            if rng.chance(30) {
+                srh.segments_left = rng.pick(&[0, 1, 127, 128]);
+            }
             "longest SRH"
         }
         10 => {
@@ -140,7 +168,11 @@ fn srh_part(rng: &mut Rng, draft: &mut Draft) -> Option<&'static str> {
             srh.tag = rng.u16();
             "SRH flags and tag"
         }
-    })
+    };
+    if choice == 9 && rng.chance(40) {
+        draft.protocol = rng.pick(&NEXT_HEADERS);
+    }
+    Some(note)
 }
 
 fn upper_part(rng: &mut Rng, draft: &mut Draft) -> Option<&'static str> {
@@ -163,7 +195,14 @@ fn upper_part(rng: &mut Rng, draft: &mut Draft) -> Option<&'static str> {
 
 fn gtpu_part(rng: &mut Rng, draft: &mut Draft) -> Option<&'static str> {
     let gtpu = draft.gtpu()?;
-    Some(match rng.below(23) {
+    Some(match rng.below(24) {
+        23 => {
+            let first = gtpu.extensions.first_mut()?;
+            first.contents[0] ^= rng.pick(&[0x10, 0x20, 0xf0]);
+            let other = other_extension(rng);
+            gtpu.extensions.push(other);
+            "another PDU type and another extension"
+        }
         0 => {
             gtpu.flags = rng.u8();
             "GTP-U flags"
@@ -262,7 +301,10 @@ fn gtpu_part(rng: &mut Rng, draft: &mut Draft) -> Option<&'static str> {
 fn other_extension(rng: &mut Rng) -> Extension {
     let kind = rng.pick(&[0x01, 0x03, 0x20, 0x40, 0x81, 0x84, 0x86, 0x05, 0xc0, 0xff]);
     let length = rng.pick(&[2, 2, 6]);
-    Extension { kind, contents: rng.octets(length) }
+    Extension {
+        kind,
+        contents: rng.octets(length),
+    }
 }
 
 /// Changes octets of a packet that is put together.
@@ -355,7 +397,11 @@ fn upper_field(rng: &mut Rng, packet: &mut Assembled) -> Option<&'static str> {
             "any of E, S, PN and 8 to 12 octets of GTP-U"
         }
         0 | 1 => {
-            let value = if rng.chance(20) { rng.below(10) } else { near(rng, packet.get16(udp_length)) };
+            let value = if rng.chance(20) {
+                rng.below(10)
+            } else {
+                near(rng, packet.get16(udp_length))
+            };
             packet.set16(udp_length, value);
             "UDP length"
         }
@@ -382,7 +428,14 @@ fn upper_field(rng: &mut Rng, packet: &mut Assembled) -> Option<&'static str> {
 }
 
 fn repair_of(rng: &mut Rng) -> Repair {
-    rng.pick(&[Repair::Nothing, Repair::Ip, Repair::Udp, Repair::All, Repair::All, Repair::All])
+    rng.pick(&[
+        Repair::Nothing,
+        Repair::Ip,
+        Repair::Udp,
+        Repair::All,
+        Repair::All,
+        Repair::All,
+    ])
 }
 
 /// Cuts around the limits, with some of the length fields made right again.
@@ -416,7 +469,11 @@ fn cut(rng: &mut Rng, packet: &mut Assembled) -> Option<&'static str> {
 
 fn append(rng: &mut Rng, packet: &mut Assembled) -> Option<&'static str> {
     let count = rng.pick(&[1, 2, 4, 8, 65_535, 70_000]);
-    let count = if count > 8 && !rng.chance(3) { rng.between(1, 16) } else { count };
+    let count = if count > 8 && !rng.chance(3) {
+        rng.between(1, 16)
+    } else {
+        count
+    };
     let more = rng.octets(count);
     packet.octets.extend(more);
     let repair = rng.pick(&[Repair::Nothing, Repair::Ip, Repair::Udp]);
@@ -439,7 +496,18 @@ fn checksum(rng: &mut Rng, packet: &mut Assembled) -> Option<&'static str> {
             "checksum with one bit wrong"
         }
         1 => {
-            packet.set16(10, rng.pick(&[right.wrapping_add(1), right.wrapping_sub(1), !right, right.swap_bytes(), 0, 0xffff]).into());
+            packet.set16(
+                10,
+                rng.pick(&[
+                    right.wrapping_add(1),
+                    right.wrapping_sub(1),
+                    !right,
+                    right.swap_bytes(),
+                    0,
+                    0xffff,
+                ])
+                .into(),
+            );
             "checksum wrong"
         }
         2 => {
@@ -468,7 +536,11 @@ fn any_octet(rng: &mut Rng, packet: &mut Assembled) -> Option<&'static str> {
         return None;
     }
     let at = rng.below(most);
-    packet.octets[at] = if rng.chance(50) { rng.u8() } else { packet.octets[at] ^ 1 << rng.below(8) };
+    packet.octets[at] = if rng.chance(50) {
+        rng.u8()
+    } else {
+        packet.octets[at] ^ 1 << rng.below(8)
+    };
     if rng.chance(80) {
         packet.repair_checksum();
     }
@@ -508,7 +580,11 @@ fn header(rng: &mut Rng, table: &Table, octets: &mut [u8]) -> Option<&'static st
         choice => {
             let at = rng.below(3);
             let count = [table.entries.len(), table.rules.len(), table.policies.len()][at] as u8;
-            octets[3 + 2 * at] = if choice == 2 { count + 1 } else { count.checked_sub(1)? };
+            octets[3 + 2 * at] = if choice == 2 {
+                count + 1
+            } else {
+                count.checked_sub(1)?
+            };
             "count without its record"
         }
     })
@@ -544,7 +620,9 @@ fn too_many(rng: &mut Rng, table: &Table, octets: &mut Vec<u8>) -> Option<&'stat
         0 => {
             while table.entries.len() <= MAX_ENTRIES {
                 let prefix = Ipv6Prefix::of(rng.u128(), 128);
-                table.entries.push(tables::entry(rng, prefix, Behaviour::End));
+                table
+                    .entries
+                    .push(tables::entry(rng, prefix, Behaviour::End));
             }
             "65 entries"
         }
@@ -574,7 +652,9 @@ fn twice(rng: &mut Rng, table: &Table, octets: &mut Vec<u8>) -> Option<&'static 
     let note = if rng.chance(60) && !table.entries.is_empty() && table.entries.len() < MAX_ENTRIES {
         let prefix = rng.pick(&table.entries).prefix;
         let copy = tables::entry(rng, prefix, Behaviour::End);
-        table.entries.insert(rng.below(table.entries.len() + 1), copy);
+        table
+            .entries
+            .insert(rng.below(table.entries.len() + 1), copy);
         "entry prefix twice"
     } else if !table.rules.is_empty() && table.rules.len() < MAX_RULES {
         let prefix = table.rules[rng.below(table.rules.len())].prefix;
@@ -607,7 +687,9 @@ fn entry(rng: &mut Rng, table: &Table, octets: &mut [u8]) -> Option<&'static str
             "prefix length above 128"
         }
         2 => {
-            let past = 128usize.checked_sub(entry.prefix.length.into()).filter(|&bits| bits > 0)?;
+            let past = 128usize
+                .checked_sub(entry.prefix.length.into())
+                .filter(|&bits| bits > 0)?;
             let any = rng.below(past);
             let bit = rng.pick(&[0, past - 1, any]);
             record[31 - bit / 8] |= 1 << (bit % 8);
@@ -626,7 +708,11 @@ fn entry(rng: &mut Rng, table: &Table, octets: &mut [u8]) -> Option<&'static str
             "session type"
         }
         6 if is_d => {
-            record[5] = rng.pick(&[table.policies.len() as u8, table.policies.len() as u8 + 1, 255]);
+            record[5] = rng.pick(&[
+                table.policies.len() as u8,
+                table.policies.len() as u8 + 1,
+                255,
+            ]);
             "policy that does not exist"
         }
         7 | 8 => match *behaviour {
@@ -636,7 +722,19 @@ fn entry(rng: &mut Rng, table: &Table, octets: &mut [u8]) -> Option<&'static str
                     record[1] = 8 * args_start + 1;
                     "E6 prefix longer than 8a"
                 } else {
-                    record[6] = rng.pick(&[96, 104, 128, 255, 89, 95, 1, 4, 7, 8 * args_start + 1, 8 * args_start + 4]);
+                    record[6] = rng.pick(&[
+                        96,
+                        104,
+                        128,
+                        255,
+                        89,
+                        95,
+                        1,
+                        4,
+                        7,
+                        8 * args_start + 1,
+                        8 * args_start + 4,
+                    ]);
                     "start of Args"
                 }
             }
@@ -708,7 +806,9 @@ fn rule(rng: &mut Rng, table: &Table, octets: &mut [u8]) -> Option<&'static str>
             "rule reserved octet"
         }
         8 => {
-            let past = 32usize.checked_sub(rule.prefix.length.into()).filter(|&bits| bits > 0)?;
+            let past = 32usize
+                .checked_sub(rule.prefix.length.into())
+                .filter(|&bits| bits > 0)?;
             let any = rng.below(past);
             let bit = rng.pick(&[0, past - 1, any]);
             record[11 - bit / 8] |= 1 << (bit % 8);

@@ -29,7 +29,9 @@ impl Call {
     }
 
     pub fn from_name(name: &str) -> Option<Call> {
-        [Call::Ipv6, Call::Ipv4].into_iter().find(|call| call.name() == name)
+        [Call::Ipv6, Call::Ipv4]
+            .into_iter()
+            .find(|call| call.name() == name)
     }
 
     pub fn run(self, packet: &[u8], table: &[u8], out: &mut [u8]) -> Answer {
@@ -56,7 +58,14 @@ pub enum Kind {
 }
 
 impl Kind {
-    pub const ALL: [Kind; 6] = [Kind::Waypoint, Kind::D, Kind::Di, Kind::E6, Kind::E4, Kind::D4];
+    pub const ALL: [Kind; 6] = [
+        Kind::Waypoint,
+        Kind::D,
+        Kind::Di,
+        Kind::E6,
+        Kind::E4,
+        Kind::D4,
+    ];
 
     pub fn name(self) -> &'static str {
         match self {
@@ -119,13 +128,28 @@ pub struct Case {
 }
 
 impl Case {
-    fn new(kind: Kind, packet: Vec<u8>, table: Vec<u8>, room: usize, notes: Vec<&'static str>) -> Case {
+    fn new(
+        kind: Kind,
+        packet: Vec<u8>,
+        table: Vec<u8>,
+        room: usize,
+        notes: Vec<&'static str>,
+    ) -> Case {
         let call = kind.call();
         let kind = matched_kind(call, &packet, &table).unwrap_or(kind);
         let mut out = vec![0; room];
         let answer = call.run(&packet, &table, &mut out);
         out.truncate(answer.length as usize);
-        Case { kind, call, packet, table, room, answer, sent: out, notes }
+        Case {
+            kind,
+            call,
+            packet,
+            table,
+            room,
+            answer,
+            sent: out,
+            notes,
+        }
     }
 
     /// Runs the case over an output of other contents and checks that the answer
@@ -135,8 +159,13 @@ impl Case {
     }
 
     /// The same with another implementation, which gives the packed answer.
-    pub fn check_by(&self, run: impl FnOnce(Call, &[u8], &[u8], &mut [u8]) -> u64) -> Result<(), String> {
-        let before: Vec<u8> = (0..self.room).map(|i| (i as u8).wrapping_mul(31) ^ 0xa5).collect();
+    pub fn check_by(
+        &self,
+        run: impl FnOnce(Call, &[u8], &[u8], &mut [u8]) -> u64,
+    ) -> Result<(), String> {
+        let before: Vec<u8> = (0..self.room)
+            .map(|i| (i as u8).wrapping_mul(31) ^ 0xa5)
+            .collect();
         let mut out = before.clone();
         let packed = run(self.call, &self.packet, &self.table, &mut out);
         let answer = Answer::unpack(packed);
@@ -144,8 +173,15 @@ impl Case {
             return Err(format!("answer {answer:?}, not {:?}", self.answer));
         }
         let (sent, rest) = out.split_at(self.sent.len());
-        if let Some(at) = sent.iter().zip(&self.sent).position(|(got, wanted)| got != wanted) {
-            return Err(format!("octet {at} sent is {:02x}, not {:02x}", sent[at], self.sent[at]));
+        if let Some(at) = sent
+            .iter()
+            .zip(&self.sent)
+            .position(|(got, wanted)| got != wanted)
+        {
+            return Err(format!(
+                "octet {at} sent is {:02x}, not {:02x}",
+                sent[at], self.sent[at]
+            ));
         }
         if rest != &before[self.sent.len()..] {
             return Err("an octet outside the packet sent was changed".to_string());
@@ -161,7 +197,10 @@ fn matched_kind(call: Call, packet: &[u8], table: &[u8]) -> Option<Kind> {
     match call {
         Call::Ipv6 => {
             let packet = Ipv6Packet::parse(packet).ok()?;
-            table.entry_for(packet.destination).ok().map(|entry| Kind::of(&entry.behaviour))
+            table
+                .entry_for(packet.destination)
+                .ok()
+                .map(|entry| Kind::of(&entry.behaviour))
         }
         Call::Ipv4 => {
             let packet = Ipv4Packet::parse(packet).ok()?;
@@ -186,7 +225,7 @@ pub fn case(seed: u64, index: u64) -> Case {
 
     // How many fields are damaged: mostly none or one, sometimes more, because
     // the smallest number has to win.
-    let damages = rng.pick(&[0, 0, 0, 0, 0, 0, 1, 1, 1, 1, 1, 1, 1, 1, 1, 1, 1, 2, 2, 3]);
+    let damages = rng.pick(&[0, 0, 0, 0, 0, 0, 1, 1, 1, 1, 1, 1, 1, 1, 1, 2, 2, 2, 3, 3]);
     let mut on_table = 0;
     let mut on_octets = 0;
     for _ in 0..damages {

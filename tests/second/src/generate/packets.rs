@@ -125,7 +125,12 @@ impl Draft {
     /// Octets before the inner packet.
     pub fn overhead(&self) -> usize {
         let ip = match &self.ip {
-            IpDraft::V6(header) => 40 + header.srh.as_ref().map_or(0, |srh| 8 + 16 * srh.segments.len() + srh.tlvs.len()),
+            IpDraft::V6(header) => {
+                40 + header
+                    .srh
+                    .as_ref()
+                    .map_or(0, |srh| 8 + 16 * srh.segments.len() + srh.tlvs.len())
+            }
             IpDraft::V4(header) => 20 + header.options.len(),
         };
         let upper = match &self.upper {
@@ -140,25 +145,46 @@ impl Draft {
         let mut layout = Layout::default();
         match &self.ip {
             IpDraft::V6(header) => {
-                let first = 6 << 28 | u32::from(header.traffic_class) << 20 | header.flow_label & 0xf_ffff;
+                let first =
+                    6 << 28 | u32::from(header.traffic_class) << 20 | header.flow_label & 0xf_ffff;
                 octets.extend(first.to_be_bytes());
                 octets.extend([0, 0]);
-                octets.push(if header.srh.is_some() { next_header::ROUTING } else { self.protocol });
+                octets.push(if header.srh.is_some() {
+                    next_header::ROUTING
+                } else {
+                    self.protocol
+                });
                 octets.push(header.hop_limit);
                 octets.extend(header.source.to_be_bytes());
                 octets.extend(header.destination.to_be_bytes());
                 if let Some(srh) = &header.srh {
                     layout.srh = Some(octets.len());
                     let units = (16 * srh.segments.len() + srh.tlvs.len()) / 8;
-                    octets.extend([self.protocol, units as u8, srh.routing_type, srh.segments_left, srh.last_entry, srh.flags]);
+                    octets.extend([
+                        self.protocol,
+                        units as u8,
+                        srh.routing_type,
+                        srh.segments_left,
+                        srh.last_entry,
+                        srh.flags,
+                    ]);
                     octets.extend(srh.tag.to_be_bytes());
-                    octets.extend(srh.segments.iter().flat_map(|segment| segment.to_be_bytes()));
+                    octets.extend(
+                        srh.segments
+                            .iter()
+                            .flat_map(|segment| segment.to_be_bytes()),
+                    );
                     octets.extend(&srh.tlvs);
                 }
             }
             IpDraft::V4(header) => {
                 layout.ipv4 = true;
-                octets.extend([0x40 | (5 + header.options.len() / 4) as u8, header.tos, 0, 0]);
+                octets.extend([
+                    0x40 | (5 + header.options.len() / 4) as u8,
+                    header.tos,
+                    0,
+                    0,
+                ]);
                 octets.extend(header.identification.to_be_bytes());
                 octets.extend(header.fragmentation.to_be_bytes());
                 octets.extend([header.ttl, self.protocol, 0, 0]);
@@ -171,7 +197,8 @@ impl Draft {
         match &self.upper {
             UpperDraft::Gtpu(gtpu) => {
                 layout.gtpu = Some(layout.upper + 8);
-                layout.extensions = Some(layout.upper + 8 + if gtpu.flags & 7 != 0 { 12 } else { 8 });
+                layout.extensions =
+                    Some(layout.upper + 8 + if gtpu.flags & 7 != 0 { 12 } else { 8 });
                 gtpu.write(&mut octets);
                 layout.inner = octets.len() - gtpu.inner.len();
             }
@@ -189,7 +216,12 @@ impl Draft {
 impl GtpuDraft {
     fn header_length(&self) -> usize {
         let optional = if self.flags & 7 != 0 { 4 } else { 0 };
-        8 + optional + self.extensions.iter().map(|e| e.contents.len() + 2).sum::<usize>()
+        8 + optional
+            + self
+                .extensions
+                .iter()
+                .map(|e| e.contents.len() + 2)
+                .sum::<usize>()
     }
 
     /// Length fields 0; [`Assembled::repair`] sets them.
@@ -200,7 +232,11 @@ impl GtpuDraft {
         octets.extend(self.udp_checksum.to_be_bytes());
         octets.extend([self.flags, self.message_type, 0, 0]);
         octets.extend(self.teid.to_be_bytes());
-        let mut types = self.extensions.iter().map(|e| e.kind).chain([self.last_type]);
+        let mut types = self
+            .extensions
+            .iter()
+            .map(|e| e.kind)
+            .chain([self.last_type]);
         if self.flags & 7 != 0 {
             octets.extend(self.sequence_number.to_be_bytes());
             octets.push(self.n_pdu_number);
@@ -279,7 +315,8 @@ impl Assembled {
     pub fn repair_checksum(&mut self) {
         if self.layout.ipv4 && self.octets.len() >= 20 {
             self.set16(10, 0);
-            let header_length = (4 * usize::from(self.octets[0] & 0x0f)).clamp(20, self.octets.len());
+            let header_length =
+                (4 * usize::from(self.octets[0] & 0x0f)).clamp(20, self.octets.len());
             let checksum = ipv4::checksum(&self.octets[..header_length]);
             self.set16(10, checksum.into());
         }
@@ -294,7 +331,10 @@ pub fn draft(rng: &mut Rng, scene: &Scene) -> Draft {
 }
 
 fn v6_draft(rng: &mut Rng, scene: &Scene, destination: u128) -> Draft {
-    let entry = scene.table.entry_for(destination).expect("a scene's destination matches");
+    let entry = scene
+        .table
+        .entry_for(destination)
+        .expect("a scene's destination matches");
     let mut header = Ipv6Draft {
         traffic_class: rng.u8(),
         flow_label: rng.u32(),
@@ -305,24 +345,41 @@ fn v6_draft(rng: &mut Rng, scene: &Scene, destination: u128) -> Draft {
     };
     match entry.behaviour {
         Behaviour::End => {
-            header.hop_limit = if rng.chance(30) { 2 } else { rng.between(2, 255) as u8 };
+            header.hop_limit = if rng.chance(30) {
+                2
+            } else {
+                rng.between(2, 255) as u8
+            };
             let mut srh = srh(rng, 1, 9);
             let any = rng.below(srh.segments.len());
             srh.last_entry = rng.pick(&[srh.segments.len() - 1, any]) as u8;
             let most = usize::from(srh.last_entry) + 1;
-            srh.segments_left = if rng.chance(30) { most as u8 } else { rng.between(1, most) as u8 };
+            srh.segments_left = if rng.chance(30) {
+                most as u8
+            } else {
+                rng.between(1, most) as u8
+            };
             header.srh = Some(srh);
             let protocol = rng.pick(&[4, 17, 41, 43 + 16, 58, 143, 6, 50, 51, 135]);
             let inner = small_inner(rng);
-            let mut draft = Draft { ip: IpDraft::V6(header), protocol, upper: UpperDraft::Plain(inner) };
+            let mut draft = Draft {
+                ip: IpDraft::V6(header),
+                protocol,
+                upper: UpperDraft::Plain(inner),
+            };
             grow(rng, &mut draft, usize::MAX);
             draft
         }
         Behaviour::D { session, policy } | Behaviour::Di { session, policy } => {
             header.srh = srh_with_sl_0(rng, 25);
             let gtpu = gtpu(rng, session);
-            let mut draft = Draft { ip: IpDraft::V6(header), protocol: next_header::UDP, upper: UpperDraft::Gtpu(gtpu) };
-            let segments = scene.table.policies[policy].sids.len() + usize::from(scene.kind == Kind::Di);
+            let mut draft = Draft {
+                ip: IpDraft::V6(header),
+                protocol: next_header::UDP,
+                upper: UpperDraft::Gtpu(gtpu),
+            };
+            let segments =
+                scene.table.policies[policy].sids.len() + usize::from(scene.kind == Kind::Di);
             grow(rng, &mut draft, 65_535 - 8 - 16 * segments);
             draft
         }
@@ -348,13 +405,20 @@ fn sr_draft(rng: &mut Rng, header: Ipv6Draft, session: Session, limit: usize) ->
         SessionType::Ethernet => next_header::ETHERNET,
     };
     let inner = small_inner(rng);
-    let mut draft = Draft { ip: IpDraft::V6(header), protocol, upper: UpperDraft::Plain(inner) };
+    let mut draft = Draft {
+        ip: IpDraft::V6(header),
+        protocol,
+        upper: UpperDraft::Plain(inner),
+    };
     grow(rng, &mut draft, limit);
     draft
 }
 
 fn d4_draft(rng: &mut Rng, scene: &Scene, destination: u32) -> Draft {
-    let rule = scene.table.rule_for(destination).expect("a scene's destination matches");
+    let rule = scene
+        .table
+        .rule_for(destination)
+        .expect("a scene's destination matches");
     let header = Ipv4Draft {
         tos: rng.u8(),
         identification: rng.u16(),
@@ -366,17 +430,33 @@ fn d4_draft(rng: &mut Rng, scene: &Scene, destination: u32) -> Draft {
         options: Vec::new(),
     };
     let gtpu = gtpu(rng, rule.session);
-    let mut draft = Draft { ip: IpDraft::V4(header), protocol: next_header::UDP, upper: UpperDraft::Gtpu(gtpu) };
-    let srh = if rule.waypoints.is_empty() { 0 } else { 8 + 16 * (rule.waypoints.len() + 1) };
+    let mut draft = Draft {
+        ip: IpDraft::V4(header),
+        protocol: next_header::UDP,
+        upper: UpperDraft::Gtpu(gtpu),
+    };
+    let srh = if rule.waypoints.is_empty() {
+        0
+    } else {
+        8 + 16 * (rule.waypoints.len() + 1)
+    };
     grow(rng, &mut draft, 65_535 - srh);
     draft
 }
 
-/// An SRH with this many segments, perhaps TLVs, SL and LE still 0.
+/// An SRH with so many segments, now and then more; perhaps TLVs; SL and LE still 0.
 pub fn srh(rng: &mut Rng, least: usize, most: usize) -> SrhDraft {
     let usual = if rng.chance(70) { 3 } else { 9 };
-    let count = rng.between(least, most.min(usual).max(least));
-    let tlvs = if rng.chance(30) { 8 * rng.between(1, 4) } else { 0 };
+    let count = match rng.below(25) {
+        // The upper layer then begins past offset 255.
+        0 => rng.between(13, 20),
+        _ => rng.between(least, most.min(usual).max(least)),
+    };
+    let tlvs = if rng.chance(30) {
+        8 * rng.between(1, 4)
+    } else {
+        0
+    };
     SrhDraft {
         routing_type: 4,
         segments_left: 0,
@@ -392,7 +472,12 @@ pub fn srh(rng: &mut Rng, least: usize, most: usize) -> SrhDraft {
 fn srh_with_sl_0(rng: &mut Rng, percent: usize) -> Option<SrhDraft> {
     rng.chance(percent).then(|| {
         let mut srh = srh(rng, 0, 4);
-        srh.last_entry = rng.pick(&[0, srh.segments.len().saturating_sub(1) as u8, srh.segments.len() as u8, 255]);
+        srh.last_entry = rng.pick(&[
+            0,
+            srh.segments.len().saturating_sub(1) as u8,
+            srh.segments.len() as u8,
+            255,
+        ]);
         srh
     })
 }
@@ -430,7 +515,10 @@ pub fn container(rng: &mut Rng, pdu_type: u8) -> Extension {
     };
     let mut contents = rng.octets(4 * units - 2);
     contents[0] = pdu_type << 4 | contents[0] & 0x0f;
-    Extension { kind: PDU_SESSION_CONTAINER, contents }
+    Extension {
+        kind: PDU_SESSION_CONTAINER,
+        contents,
+    }
 }
 
 pub fn small_inner(rng: &mut Rng) -> Vec<u8> {

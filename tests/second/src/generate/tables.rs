@@ -35,7 +35,11 @@ pub fn scene(rng: &mut Rng, kind: Kind) -> Scene {
         policies: (0..policies).map(|_| policy(rng)).collect(),
         ..Table::default()
     };
-    let (others, rules) = if full { (MAX_ENTRIES, MAX_RULES) } else { (rng.below(6), rng.below(3)) };
+    let (others, rules) = if full {
+        (MAX_ENTRIES, MAX_RULES)
+    } else {
+        (rng.below(6), rng.below(3))
+    };
     let destination = if kind == Kind::D4 {
         let destination = rng.u32();
         let count = if full { rules } else { rng.between(1, 4) };
@@ -52,7 +56,11 @@ pub fn scene(rng: &mut Rng, kind: Kind) -> Scene {
         table.rules = nested_rules(rng, address, rules);
         Destination::Ipv6(destination)
     };
-    Scene { kind, table, destination }
+    Scene {
+        kind,
+        table,
+        destination,
+    }
 }
 
 /// Random, sometimes with runs of zeros so that prefixes share their bits.
@@ -66,8 +74,17 @@ pub fn address(rng: &mut Rng) -> u128 {
 }
 
 pub fn session(rng: &mut Rng) -> Session {
-    let types = [SessionType::Ipv4, SessionType::Ipv6, SessionType::Ipv4v6, SessionType::Ipv4v6, SessionType::Ethernet];
-    Session { direction: rng.pick(&[Direction::Downlink, Direction::Uplink]), session_type: rng.pick(&types) }
+    let types = [
+        SessionType::Ipv4,
+        SessionType::Ipv6,
+        SessionType::Ipv4v6,
+        SessionType::Ipv4v6,
+        SessionType::Ethernet,
+    ];
+    Session {
+        direction: rng.pick(&[Direction::Downlink, Direction::Uplink]),
+        session_type: rng.pick(&types),
+    }
 }
 
 pub fn hop_limit(rng: &mut Rng) -> u8 {
@@ -89,7 +106,10 @@ fn edged(rng: &mut Rng, most: u8) -> u8 {
 }
 
 pub fn places(rng: &mut Rng) -> Ipv4Places {
-    Ipv4Places { p: edged(rng, MAX_P), q: edged(rng, MAX_Q) }
+    Ipv4Places {
+        p: edged(rng, MAX_P),
+        q: edged(rng, MAX_Q),
+    }
 }
 
 pub fn args_start(rng: &mut Rng) -> u8 {
@@ -98,7 +118,10 @@ pub fn args_start(rng: &mut Rng) -> u8 {
 
 pub fn policy(rng: &mut Rng) -> Policy {
     let count = rng.between(1, MAX_SIDS);
-    Policy { args_start: args_start(rng), sids: (0..count).map(|_| rng.u128()).collect() }
+    Policy {
+        args_start: args_start(rng),
+        sids: (0..count).map(|_| rng.u128()).collect(),
+    }
 }
 
 pub fn rule(rng: &mut Rng, prefix: Ipv4Prefix) -> Rule {
@@ -116,17 +139,36 @@ pub fn rule(rng: &mut Rng, prefix: Ipv4Prefix) -> Rule {
 }
 
 pub fn entry(rng: &mut Rng, prefix: Ipv6Prefix, behaviour: Behaviour) -> Entry {
-    Entry { prefix, hop_limit: hop_limit(rng), source: rng.u128(), behaviour }
+    Entry {
+        prefix,
+        hop_limit: hop_limit(rng),
+        source: rng.u128(),
+        behaviour,
+    }
 }
 
 fn behaviour(rng: &mut Rng, kind: Kind, policies: usize) -> Behaviour {
     let session = session(rng);
     let source_port = rng.u16();
     match kind {
-        Kind::D => Behaviour::D { session, policy: rng.below(policies) },
-        Kind::Di => Behaviour::Di { session, policy: rng.below(policies) },
-        Kind::E6 => Behaviour::E6 { session, args_start: args_start(rng), source_port },
-        Kind::E4 => Behaviour::E4 { session, places: places(rng), source_port },
+        Kind::D => Behaviour::D {
+            session,
+            policy: rng.below(policies),
+        },
+        Kind::Di => Behaviour::Di {
+            session,
+            policy: rng.below(policies),
+        },
+        Kind::E6 => Behaviour::E6 {
+            session,
+            args_start: args_start(rng),
+            source_port,
+        },
+        Kind::E4 => Behaviour::E4 {
+            session,
+            places: places(rng),
+            source_port,
+        },
         Kind::Waypoint | Kind::D4 => Behaviour::End,
     }
 }
@@ -186,13 +228,18 @@ pub fn nested_entries(
                 Ipv6Prefix::of(flip(rng.between(length.into(), longer - 1)), longer as u8)
             }
             3 if length > 0 => Ipv6Prefix::of(flip(usize::from(length) - 1), length),
-            4 => Ipv6Prefix { bits: destination & table::mask6(length.into()), length: rng.between(length.into(), 128) as u8 },
+            4 => Ipv6Prefix {
+                bits: destination & table::mask6(length.into()),
+                length: rng.between(length.into(), 128) as u8,
+            },
             _ => {
                 let address = address(rng);
                 Ipv6Prefix::of(address, rng.between(0, 128) as u8)
             }
         };
-        let hides = target.is_some_and(|(_, entry)| prefix.matches(destination) && prefix.length >= entry.prefix.length);
+        let hides = target.is_some_and(|(_, entry)| {
+            prefix.matches(destination) && prefix.length >= entry.prefix.length
+        });
         if hides || entries.len() == MAX_ENTRIES || entries.iter().any(|e| e.prefix == prefix) {
             continue;
         }
