@@ -26,3 +26,4 @@ pub mod Demand3
 pub mod Samples
 pub mod Worked
 pub mod Premises
+pub mod AnswerTable

@@ -34,8 +34,11 @@ icmpRow tests number icmpType icmpCode pointer = record {
   refusal = record { number = number; icmpType = icmpType; icmpCode = icmpCode; pointer = pointer };
 }
 
+abbrev pub plain : (number : ℕ) → Refusal
+plain number = record { number = number; icmpType = 0; icmpCode = 0; pointer = 0 }
+
 abbrev pub row : (tests : List Bool) (number : ℕ) → Row
-row tests number = icmpRow tests number 0 0 0
+row tests number = record { tests = tests; refusal = plain number }
 
 -- row 6: Time Exceeded code 0
 abbrev pub hopLimitRow : List Bool → Row

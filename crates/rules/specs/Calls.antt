@@ -1,5 +1,5 @@
 -- The two calls: from packet octets, table octets and room to what is sent or a refusal.
-use mathlib.Core.Bool.{Bool, true, not, cond}
+use mathlib.Core.Bool.{Bool, not, cond}
 use mathlib.Core.List.{List, [], _∷_}
 use Prim.Native.Nat.{ℕ}
 use lib.Dec.{eqb}
@@ -10,7 +10,7 @@ use Rattle.rules.specs.Ipv6 as Ipv6
 use Rattle.rules.specs.Ipv4 as Ipv4
 use Rattle.rules.specs.Sound.{sound}
 use Rattle.rules.specs.Match.{matchEntry, matchRule}
-use Rattle.rules.specs.Answer.{Row, row, Outcome, unless, settle, Sent}
+use Rattle.rules.specs.Answer.{Row, row, plain, Outcome, Refused, unless, settle}
 use Rattle.rules.specs.Header.{header, malformed}
 use Rattle.rules.specs.Waypoint.{atWaypoint}
 use Rattle.rules.specs.D.{atD}
@@ -29,7 +29,7 @@ unsoundRow t = row (not (sound t) ∷ []) 1
 
 -- row 4: no entry or rule matches
 abbrev pub unmatched : Outcome
-unmatched = unless (row (true ∷ []) 4 ∷ []) (Sent [])
+unmatched = Refused (plain 4)
 
 -- an IPv6 packet at an entry that matches; the last behaviour that a sound table may name is E4
 unfoldable pub atEntry : (t e p : List ℕ) → Outcome
