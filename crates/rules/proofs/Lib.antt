@@ -27,3 +27,7 @@ pub mod Samples
 pub mod Worked
 pub mod Premises
 pub mod AnswerTable
+pub mod Splices
+pub mod Fields
+pub mod PathFields
+pub mod D4Fields

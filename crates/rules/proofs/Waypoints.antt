@@ -27,17 +27,21 @@ use Rattle.rules.proofs.Reading.{Addresses, length-segments, drop-segme
 take-past : (s r : List ℕ) (n i : ℕ) → length s ≡ n → take (n + i) (s ++ r) ≡ s ++ take i r
 take-past s r n i h = rw (← h) (take-append-add s r i)
 
+regroup : (s d a x b : List ℕ) → s ++ (d ++ a) ++ x ++ b ≡ s ++ (d ++ (a ++ x ++ b))
+regroup s d a x b = simp append-assoc
+
 module _ (class payload next hop : ℕ) (s d rest : List ℕ) (hs : length s ≡ 16) (hd : length d ≡ 16) where
   splice-destination : (x : List ℕ) → length x ≡ 16 → splice (ipv6 class payload next hop s d rest) 24 x ≡ ipv6 class payload next hop s x rest
   unfolding splice
-  splice-destination x hx = rw (hx, take-at s (d ++ rest) 16 hs, ipv6-drop class payload next hop s d rest hs hd 0)
+  splice-destination x hx = rw (hx, take-at s (d ++ rest) 16 hs, ipv6-drop class payload next hop s d rest hs hd 0, append-assoc s x rest)
 
   splice-rest : (x : ℕ) → splice (ipv6 class payload next hop s d rest) 43 (x ∷ []) ≡ ipv6 class payload next hop s d (splice rest 3 (x ∷ []))
   unfolding splice
   splice-rest x =
       let t : take 35 (s ++ (d ++ rest)) ≡ s ++ (d ++ take 3 rest) = take-past s (d ++ rest) 16 19 hs ∙ ap (λ (l : List ℕ). s ++ l) (take-past d rest 16 3 hd) in
       let u : drop 36 (s ++ (d ++ rest)) ≡ drop 4 rest = drop-past s (d ++ rest) 16 20 hs ∙ drop-past d rest 16 4 hd in
-      rw (t, u, append-assoc s (d ++ take 3 rest) (x ∷ drop 4 rest), append-assoc d (take 3 rest) (x ∷ drop 4 rest))
+      rw (t, u)
+      (ap (λ (l : List ℕ). (0x60 + class / 16) ∷ (class % 16 * 16) ∷ 0 ∷ 0 ∷ (payload / 256) ∷ (payload % 256) ∷ next ∷ hop ∷ l) (regroup s d (take 3 rest) (x ∷ []) (drop 4 rest)))
 
 pub ipv6-forwarded : (class payload next hop : ℕ) (s d : List ℕ) (a b c left : ℕ) (rest : List ℕ) → length s ≡ 16 → length d ≡ 16
     → forwarded (ipv6 class payload next hop s d (a ∷ b ∷ c ∷ left ∷ rest))

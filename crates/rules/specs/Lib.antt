@@ -29,3 +29,4 @@ pub mod D4
 pub mod Calls
 pub mod Trip
 pub mod Demand3
+pub mod Written

@@ -31,4 +31,4 @@ number s i (suc n) = number s i n * 256 + octet s (i + n)
 
 -- a buffer with the octets x from octet i on; every other octet stays
 unfoldable pub splice : (buffer : List ℕ) (i : ℕ) (x : List ℕ) → List ℕ
-splice buffer i x = take i buffer ++ (x ++ drop (i + length x) buffer)
+splice buffer i x = take i buffer ++ x ++ drop (i + length x) buffer
