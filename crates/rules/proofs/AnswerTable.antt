@@ -6,7 +6,7 @@ use mathlib.Core.List.{List, [], _∷_, _++_}
 use Prim.Native.Nat.{ℕ}
 use lib.Dec.{T, ltb}
 use Rattle.rules.specs.Answer.{Row, plain, lengthRow, roomRow}
-use Rattle.rules.specs.Datagram.{messageRows, gPduRows}
+use Rattle.rules.specs.Datagram.{innerRows, messageRows, gPduRows}
 use Rattle.rules.specs.Waypoint.{waypointRows}
 use Rattle.rules.specs.Gtp6D.{gtp6Rows, gtp6DRows}
 use Rattle.rules.specs.E6.{e6Rows}
@@ -48,7 +48,7 @@ module _ (t : List ℕ) (room : ℕ) (x : List ℕ) (h : Header) where
   pub gtp6-refusals : (g : Datagram) (e : List ℕ) (path : List (List ℕ)) (direction : ℕ) (inner : List ℕ)
       → refusals (gtp6Rows h g ++ (messageRows g ++ (gPduRows direction g ++ (gtp6DRows e path inner ++ roomRow room x ∷ []))))
       ≡ plain 5 ∷ icmp 7 4 0 43 ∷ icmp 8 4 4 (h .upperAt) ∷ plain 9 ∷ plain 10 ∷ plain 11 ∷ plain 12 ∷ plain 13 ∷ plain 14 ∷ plain 15 ∷ plain 16 ∷ []
-  unfolding gtp6Rows messageRows gPduRows gtp6DRows
+  unfolding gtp6Rows messageRows gPduRows innerRows
   gtp6-refusals g e path direction inner = refl
 
   pub e6-refusals : (e : List ℕ) (size : ℕ) → refusals (e6Rows e h ++ (lengthRow size ∷ roomRow room x ∷ []))
@@ -69,7 +69,7 @@ module _ (t : List ℕ) (room : ℕ) (x : List ℕ) (h : Header) where
   pub d4-refusals : (h : Header4) (g : Datagram) (r : List ℕ) (direction : ℕ) (inner : List ℕ)
       → refusals (gtp4Rows h g ++ (messageRows g ++ (gPduRows direction g ++ (d4Rows r inner ++ roomRow room x ∷ []))))
       ≡ plain 8 ∷ plain 9 ∷ plain 10 ∷ plain 11 ∷ plain 12 ∷ plain 13 ∷ plain 14 ∷ plain 15 ∷ plain 16 ∷ []
-  unfolding gtp4Rows messageRows gPduRows d4Rows
+  unfolding gtp4Rows messageRows gPduRows innerRows
   d4-refusals h g r direction inner = refl
 
   -- the numbers of each ascend from 4 on, over IPv4 from 4 on too
@@ -79,5 +79,5 @@ module _ (t : List ℕ) (room : ℕ) (x : List ℕ) (h : Header) where
       && (below 4 (refusals (e6Rows e h ++ (lengthRow size ∷ roomRow room x ∷ [])))
       && (below 4 (refusals (e4Rows e h ++ (lengthRow size ∷ roomRow room x ∷ [])))
       && below 4 (refusals (gtp4Rows h4 g ++ (messageRows g ++ (gPduRows direction g ++ (d4Rows r inner ++ roomRow room x ∷ [])))))))))
-  unfolding waypointRows gtp6Rows messageRows gPduRows gtp6DRows e6Rows e4Rows gtp4Rows d4Rows
+  unfolding waypointRows gtp6Rows messageRows gPduRows innerRows e6Rows e4Rows gtp4Rows
   ascending g h4 e r path direction size inner = tt

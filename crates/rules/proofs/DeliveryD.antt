@@ -18,7 +18,8 @@ use Rattle.rules.specs.Header.{header}
 use Rattle.rules.specs.Session.{innerProtocol}
 use Rattle.rules.specs.Srv6.{srv6Payload}
 use Rattle.rules.specs.Carried.{Carried, carried6}
-use Rattle.rules.specs.Gtp6D.{gtp6DPacket, gtp6DRows}
+use Rattle.rules.specs.Datagram.{innerRows}
+use Rattle.rules.specs.Gtp6D.{gtp6DPacket}
 use Rattle.rules.specs.D.{lastWithArgs, dPath, dPacket, atD}
 use Rattle.rules.specs.Trip.{Stop, call, trip}
 use Rattle.rules.specs.Demand3.{policyOf, MatchingD, DeliversD}
@@ -35,7 +36,7 @@ use Rattle.rules.proofs.Tables.{found-d}
 use Rattle.rules.proofs.Trips.{trip-outcome}
 
 pub d-delivers : (near : Stop) (ss : List Stop) (p : List ℕ) (i : ℕ) → MatchingD near ss p i → DeliversD near ss p (policyOf near i)
-unfolding atD dPath dPacket gtp6DPacket gtp6DRows
+unfolding atD dPath dPacket gtp6DPacket innerRows
 d-delivers near ss p i m =
     let e = entryAt (near .table) i in
     let y = policyOf near i in

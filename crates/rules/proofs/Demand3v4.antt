@@ -18,6 +18,7 @@ use Rattle.rules.specs.Answer.{Sent}
 use Rattle.rules.specs.Session.{innerProtocol}
 use Rattle.rules.specs.Srv6.{srv6, srv6Payload, pastWaypoints, pastWaypointsPayload}
 use Rattle.rules.specs.Carried.{Carried, carried4}
+use Rattle.rules.specs.Datagram.{innerRows}
 use Rattle.rules.specs.D4.{d4Sid, d4Source, d4Packet, d4Rows}
 use Rattle.rules.specs.E4.{e4Packet, e4TotalLength}
 use Rattle.rules.specs.Trip.{Stop, call, trip, stops}
@@ -117,7 +118,7 @@ module _ (near : Stop) (ss : List Stop) (far : Stop) (address : List ℕ) (c : C
   -- a packet that carries the values, and that passes at the near gateway, goes all the way
   whole : (p : List ℕ) → Ipv4.destination p ≡ address → carried4 p ≡ c → Passed r p
       → (trip (stops near ss far) p .outcome ≡ Sent (e4Packet f c)) × (getD (trip (stops near ss far) p .buffers) (length ss + 1) [] ≡ splice (far .buffer) 0 (e4Packet f c))
-  unfolding d4Packet d4Rows
+  unfolding d4Packet innerRows
   whole p hd hc n =
       let last : None (d4Rows r (c .inner)) = rw hc at (n .last) in
       let upper = innerProtocol (Rule.session r) (c .inner) in

@@ -18,6 +18,7 @@ use Rattle.rules.specs.Answer.{Sent}
 use Rattle.rules.specs.Session.{innerProtocol}
 use Rattle.rules.specs.Srv6.{srv6Payload}
 use Rattle.rules.specs.Carried.{Carried, carried6}
+use Rattle.rules.specs.Datagram.{innerRows}
 use Rattle.rules.specs.Gtp6D.{gtp6DPacket, gtp6DRows, atGtp6D}
 use Rattle.rules.specs.D.{lastWithArgs}
 use Rattle.rules.specs.Di.{diPath, diPacket, atDi}
@@ -101,7 +102,7 @@ module _ (near : Stop) (ss : List Stop) (far : Stop) (address : List ℕ) (c : C
       → (hop : ℕ) → hop ≡ Entry.hopLimit e - length ss
       → (trip ss (diPacket e y c) .outcome ≡ Sent (onTheWay (c .trafficClass) (innerProtocol (Entry.session e) (c .inner)) hop (Entry.source e) (diPath y c) (lastWithArgs y (c .args) ∷ c .destination ∷ []) (c .inner)))
       × (call far (onTheWay (c .trafficClass) (innerProtocol (Entry.session e) (c .inner)) hop (Entry.source e) (diPath y c) (lastWithArgs y (c .args) ∷ c .destination ∷ []) (c .inner)) ≡ Sent (e6Packet f c))
-  unfolding diPath diPacket gtp6DPacket gtp6DRows
+  unfolding diPath diPacket gtp6DPacket innerRows
   onward n hop q =
       let x = lastWithArgs y (c .args) in
       let ws = Policy.waypoints y in

@@ -4,21 +4,23 @@ use mathlib.Core.Bool.{Bool}
 use Prim.Native.Nat.{ℕ, _-_, _*_}
 use lib.Dec.{ltb}
 use lib.ListN.{length, take, replicate}
+use Rattle.rules.specs.Octets.{octet}
 use Rattle.rules.specs.Rule as Rule
 use Rattle.rules.specs.Ipv4 as Ipv4
 use Rattle.rules.specs.Args.{withArgs}
 use Rattle.rules.specs.E4.{startBehind}
-use Rattle.rules.specs.Answer.{Row, row, lengthRow, differs, Outcome, Sent, unless}
-use Rattle.rules.specs.Datagram.{datagram, notGtpu, messageRows, gPduRows, badInner}
+use Rattle.rules.specs.Answer.{Row, row, differs, Outcome, Sent, unless}
+use Rattle.rules.specs.Datagram.{datagram, notGtpu, messageRows, gPduRows, innerRows}
 use Rattle.rules.specs.Carried.{Carried, carried4, datagramIn4}
 use Rattle.rules.specs.Session.{innerProtocol}
 use Rattle.rules.specs.Srv6.{pastWaypoints, pastWaypointsPayload}
 use Rattle.rules.specs.declared.Header4.{Header4}
 use Rattle.rules.specs.declared.Datagram.{Datagram}
 
-unfoldable pub header4 : List ℕ → Header4
-header4 p = record {
-  size = length p;
+-- what is asked of an IPv4 packet of n octets that begins with p
+abbrev pub header4Of : (p : List ℕ) (n : ℕ) → Header4
+header4Of p n = record {
+  size = n;
   version = Ipv4.version p;
   headerLength = Ipv4.headerLength p;
   totalLength = Ipv4.totalLength p;
@@ -27,6 +29,9 @@ header4 p = record {
   protocol = Ipv4.protocol p;
   headerSum = Ipv4.headerSum p;
 }
+
+unfoldable pub header4 : List ℕ → Header4
+header4 p = header4Of p (length p)
 
 -- row 2: shorter than 20 octets, wrong version, or the length field disagrees with the packet lent
 abbrev pub malformed4 : Header4 → List Bool
@@ -63,9 +68,9 @@ unfoldable pub gtp4Rows : Header4 → Datagram → List Row
 gtp4Rows h g = row (notGtpu (h .protocol) g) 8 ∷ []
 
 -- rows 14 and 15
-unfoldable pub d4Rows : (r inner : List ℕ) → List Row
+abbrev pub d4Rows : (r inner : List ℕ) → List Row
 d4Rows r inner =
-    row (badInner (Rule.session r) inner) 14 ∷ lengthRow (pastWaypointsPayload (Rule.waypoints r) inner) ∷ []
+    innerRows (Rule.session r) (length inner) (octet inner 0) (pastWaypointsPayload (Rule.waypoints r) inner)
 
 unfoldable pub atD4 : (r p : List ℕ) → Outcome
 atD4 r p =

@@ -7,12 +7,13 @@ use lib.ListN.{length}
 use Rattle.rules.specs.Octets.{octet}
 use Rattle.rules.specs.Assigned.{udpProtocol, gtpuPort, gPdu, pduSessionContainer, ipv4v6Session}
 use Rattle.rules.specs.Gtpu as Gtpu
-use Rattle.rules.specs.Answer.{Row, row, differs, given}
+use Rattle.rules.specs.Answer.{Row, row, lengthRow, differs, given}
 use Rattle.rules.specs.declared.Datagram.{Datagram}
 
-unfoldable pub datagram : List ℕ → Datagram
-datagram u = record {
-  size = length u;
+-- of a datagram of n octets that begins with u, with the type that follows its first extension
+abbrev pub datagramOf : (u : List ℕ) (n followingType : ℕ) → Datagram
+datagramOf u n followingType = record {
+  size = n;
   destinationPort = Gtpu.destinationPort u;
   length = Gtpu.udpLength u;
   flags = octet u 8;
@@ -22,8 +23,11 @@ datagram u = record {
   extensionType = Gtpu.extensionType u;
   extensionUnits = Gtpu.extensionUnits u;
   pduType = Gtpu.pduType u;
-  followingType = Gtpu.followingType u;
+  followingType = followingType;
 }
+
+unfoldable pub datagram : List ℕ → Datagram
+datagram u = datagramOf u (length u) (Gtpu.followingType u)
 
 -- row 8: not UDP, or destination port not 2152; the port is read only if 8 UDP octets are there
 abbrev pub notGtpu : (protocol : ℕ) → Datagram → List Bool
@@ -70,7 +74,10 @@ gPduRows direction g =
     row (differs (g .messageType) gPdu ∷ []) 11 ∷ row (badExtensions g) 12 ∷ row (badContainer direction g) 13 ∷ []
 
 -- row 14: IPv4v6: inner empty or nibble not 4 or 6
-abbrev pub badInner : (session : ℕ) (inner : List ℕ) → List Bool
-badInner session inner =
-    given (eqb session ipv4v6Session)
-    (eqb (length inner) 0 ∷ (differs (octet inner 0 / 16) 4 && differs (octet inner 0 / 16) 6) ∷ [])
+abbrev pub badInner : (session size first : ℕ) → List Bool
+badInner session size first =
+    given (eqb session ipv4v6Session) (eqb size 0 ∷ (differs (first / 16) 4 && differs (first / 16) 6) ∷ [])
+
+-- rows 14 and 15, for an inner packet of some size and first octet, and the length field of what is to be sent
+unfoldable pub innerRows : (session size first lengthField : ℕ) → List Row
+innerRows session size first lengthField = row (badInner session size first) 14 ∷ lengthRow lengthField ∷ []

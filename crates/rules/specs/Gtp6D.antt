@@ -2,10 +2,11 @@
 use mathlib.Core.List.{List, [], _∷_}
 use lib.ListN.{length}
 use Prim.Native.Nat.{ℕ}
+use Rattle.rules.specs.Octets.{octet}
 use Rattle.rules.specs.Entry as Entry
-use Rattle.rules.specs.Answer.{Row, row, segmentsLeftRow, upperLayerRow, lengthRow, Outcome, Sent, unless}
+use Rattle.rules.specs.Answer.{Row, row, segmentsLeftRow, upperLayerRow, Outcome, Sent, unless}
 use Rattle.rules.specs.Header.{header, badChain, segmentsRemain}
-use Rattle.rules.specs.Datagram.{datagram, notGtpu, messageRows, gPduRows, badInner}
+use Rattle.rules.specs.Datagram.{datagram, notGtpu, messageRows, gPduRows, innerRows}
 use Rattle.rules.specs.Carried.{Carried, carried6, datagramIn6}
 use Rattle.rules.specs.Session.{innerProtocol}
 use Rattle.rules.specs.Srv6.{srv6, srv6Payload}
@@ -23,8 +24,8 @@ gtp6Rows h g =
     row (badChain h) 5 ∷ segmentsLeftRow (segmentsRemain h) ∷ upperLayerRow (notGtpu (h .upper) g) (h .upperAt) ∷ []
 
 -- rows 14 and 15
-unfoldable pub gtp6DRows : (e : List ℕ) (path : List (List ℕ)) (inner : List ℕ) → List Row
-gtp6DRows e path inner = row (badInner (Entry.session e) inner) 14 ∷ lengthRow (srv6Payload path inner) ∷ []
+abbrev pub gtp6DRows : (e : List ℕ) (path : List (List ℕ)) (inner : List ℕ) → List Row
+gtp6DRows e path inner = innerRows (Entry.session e) (length inner) (octet inner 0) (srv6Payload path inner)
 
 -- a packet p at the entry e, from which a packet along a path is made
 unfoldable pub atGtp6D : (e : List ℕ) (path : List (List ℕ)) (made p : List ℕ) → Outcome

@@ -11,9 +11,10 @@ use Rattle.rules.specs.Srh as Srh
 use Rattle.rules.specs.Answer.{differs, given}
 use Rattle.rules.specs.declared.Header.{Header}
 
-unfoldable pub header : List ℕ → Header
-header p = record {
-  size = length p;
+-- of a packet of n octets that begins with p
+abbrev pub headerOf : (p : List ℕ) (n : ℕ) → Header
+headerOf p n = record {
+  size = n;
   version = Ipv6.version p;
   trafficClass = Ipv6.trafficClass p;
   payloadLength = Ipv6.payloadLength p;
@@ -26,6 +27,9 @@ header p = record {
   upper = cond (eqb (Ipv6.nextHeader p) routingHeader) (Srh.nextHeader p) (Ipv6.nextHeader p);
   upperAt = cond (eqb (Ipv6.nextHeader p) routingHeader) (48 + 8 * Srh.units p) 40;
 }
+
+unfoldable pub header : List ℕ → Header
+header p = headerOf p (length p)
 
 -- row 2: shorter than 40 octets, wrong version, or the length field disagrees with the packet lent
 abbrev pub malformed : Header → List Bool

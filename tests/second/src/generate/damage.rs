@@ -70,7 +70,7 @@ fn ip_part(rng: &mut Rng, draft: &mut Draft) -> Option<&'static str> {
                 "more fragments"
             }
             1 => {
-                header.fragmentation |= 1 << rng.below(13);
+                header.fragmentation |= 1 << rng.pick(&[0, 12, 12, 11, 8, 7, 3]);
                 "fragment offset"
             }
             2 => {
@@ -79,10 +79,11 @@ fn ip_part(rng: &mut Rng, draft: &mut Draft) -> Option<&'static str> {
             }
             3 => {
                 let words = rng.between(1, 10);
-                header.options = if rng.chance(50) {
-                    vec![1; 4 * words]
-                } else {
-                    rng.octets(4 * words)
+                // Zeros leave the checksum as it is without them.
+                header.options = match rng.below(3) {
+                    0 => vec![0; 4 * words],
+                    1 => vec![1; 4 * words],
+                    _ => rng.octets(4 * words),
                 };
                 "options"
             }
@@ -351,7 +352,11 @@ fn ip_field(rng: &mut Rng, packet: &mut Assembled) -> Option<&'static str> {
             "IP version"
         }
         _ if packet.layout.ipv4 => {
-            packet.octets[0] = packet.octets[0] & 0xf0 | rng.pick(&[0, 4, 6, 15]);
+            packet.octets[0] = packet.octets[0] & 0xf0 | rng.pick(&[0, 4, 6, 6, 7, 15]);
+            if rng.chance(50) {
+                packet.repair_checksum_over(20);
+                return Some("IPv4 header length, checksum over 20 octets");
+            }
             "IPv4 header length"
         }
         _ => {
@@ -391,7 +396,8 @@ fn upper_field(rng: &mut Rng, packet: &mut Assembled) -> Option<&'static str> {
             if packet.octets.len() < length {
                 return None;
             }
-            packet.octets[gtpu] = flag::VERSION_1 | flag::PT | rng.below(8) as u8;
+            let optional = rng.pick(&[0, 1, 1, 1, 2, 2, 2, 3, 4, 7]);
+            packet.octets[gtpu] = flag::VERSION_1 | flag::PT | optional;
             packet.octets.truncate(length);
             packet.repair(Repair::All);
             "any of E, S, PN and 8 to 12 octets of GTP-U"
@@ -547,6 +553,15 @@ fn any_octet(rng: &mut Rng, packet: &mut Assembled) -> Option<&'static str> {
     Some("any octet")
 }
 
+/// Half the time the first: the value just outside the bounds.
+fn first_or_other(rng: &mut Rng, values: &[u8]) -> u8 {
+    if rng.chance(50) {
+        values[0]
+    } else {
+        rng.pick(values)
+    }
+}
+
 /// Breaks one soundness condition. `octets` are those of `table`.
 pub fn table(rng: &mut Rng, table: &Table, octets: Vec<u8>) -> (Vec<u8>, &'static str) {
     loop {
@@ -683,7 +698,7 @@ fn entry(rng: &mut Rng, table: &Table, octets: &mut [u8]) -> Option<&'static str
             "behaviour"
         }
         1 => {
-            record[1] = rng.pick(&[129, 130, 255]);
+            record[1] = first_or_other(rng, &[129, 130, 255]);
             "prefix length above 128"
         }
         2 => {
@@ -700,7 +715,7 @@ fn entry(rng: &mut Rng, table: &Table, octets: &mut [u8]) -> Option<&'static str
             "hop limit 0"
         }
         4 if *behaviour != Behaviour::End => {
-            record[3] = rng.pick(&[2, 3, 16, 255]);
+            record[3] = first_or_other(rng, &[2, 3, 16, 255]);
             "direction"
         }
         5 if *behaviour != Behaviour::End => {
@@ -708,11 +723,14 @@ fn entry(rng: &mut Rng, table: &Table, octets: &mut [u8]) -> Option<&'static str
             "session type"
         }
         6 if is_d => {
-            record[5] = rng.pick(&[
-                table.policies.len() as u8,
-                table.policies.len() as u8 + 1,
-                255,
-            ]);
+            record[5] = first_or_other(
+                rng,
+                &[
+                    table.policies.len() as u8,
+                    table.policies.len() as u8 + 1,
+                    255,
+                ],
+            );
             "policy that does not exist"
         }
         7 | 8 => match *behaviour {
@@ -722,19 +740,22 @@ fn entry(rng: &mut Rng, table: &Table, octets: &mut [u8]) -> Option<&'static str
                     record[1] = 8 * args_start + 1;
                     "E6 prefix longer than 8a"
                 } else {
-                    record[6] = rng.pick(&[
-                        96,
-                        104,
-                        128,
-                        255,
-                        89,
-                        95,
-                        1,
-                        4,
-                        7,
-                        8 * args_start + 1,
-                        8 * args_start + 4,
-                    ]);
+                    record[6] = first_or_other(
+                        rng,
+                        &[
+                            96,
+                            104,
+                            128,
+                            255,
+                            89,
+                            95,
+                            1,
+                            4,
+                            7,
+                            8 * args_start + 1,
+                            8 * args_start + 4,
+                        ],
+                    );
                     "start of Args"
                 }
             }
@@ -747,11 +768,11 @@ fn entry(rng: &mut Rng, table: &Table, octets: &mut [u8]) -> Option<&'static str
                     "E4 prefix longer than 8p"
                 }
                 1 => {
-                    record[7] = rng.pick(&[8, 9, 12, 255]);
+                    record[7] = first_or_other(rng, &[8, 9, 12, 255]);
                     "p"
                 }
                 _ => {
-                    record[8] = rng.pick(&[13, 14, 16, 255]);
+                    record[8] = first_or_other(rng, &[13, 14, 16, 255]);
                     "q"
                 }
             },
@@ -774,7 +795,7 @@ fn rule(rng: &mut Rng, table: &Table, octets: &mut [u8]) -> Option<&'static str>
     let record = &mut octets[rule_at(table, index)..];
     Some(match rng.below(11) {
         0 => {
-            record[0] = rng.pick(&[33, 64, 128, 255]);
+            record[0] = first_or_other(rng, &[33, 64, 128, 255]);
             "rule prefix length above 32"
         }
         1 => {
@@ -782,7 +803,7 @@ fn rule(rng: &mut Rng, table: &Table, octets: &mut [u8]) -> Option<&'static str>
             "rule hop limit 0"
         }
         2 => {
-            record[2] = rng.pick(&[2, 255]);
+            record[2] = first_or_other(rng, &[2, 255]);
             "rule direction"
         }
         3 => {
@@ -790,15 +811,15 @@ fn rule(rng: &mut Rng, table: &Table, octets: &mut [u8]) -> Option<&'static str>
             "rule session type"
         }
         4 => {
-            record[4] = rng.pick(&[8, 9, 255]);
+            record[4] = first_or_other(rng, &[8, 9, 255]);
             "rule p"
         }
         5 => {
-            record[5] = rng.pick(&[13, 16, 255]);
+            record[5] = first_or_other(rng, &[13, 16, 255]);
             "rule q"
         }
         6 => {
-            record[6] = rng.pick(&[8, 9, 255]);
+            record[6] = first_or_other(rng, &[8, 9, 255]);
             "rule waypoints"
         }
         7 => {
@@ -839,11 +860,11 @@ fn policy(rng: &mut Rng, table: &Table, octets: &mut [u8]) -> Option<&'static st
     let record = &mut octets[policy_at(table, index)..];
     Some(match rng.below(3) {
         0 => {
-            record[0] = rng.pick(&[0, 0, 9, 10, 255]);
+            record[0] = rng.pick(&[0, 0, 9, 9, 10, 255]);
             "policy SIDs"
         }
         1 => {
-            record[1] = rng.pick(&[96, 104, 255, 89, 87, 1, 4, 7]);
+            record[1] = first_or_other(rng, &[96, 104, 255, 89, 87, 1, 4, 7]);
             "policy start of Args"
         }
         _ => {

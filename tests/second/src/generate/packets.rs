@@ -312,12 +312,18 @@ impl Assembled {
         self.repair_checksum();
     }
 
+    /// Over as many octets as the header length field says.
     pub fn repair_checksum(&mut self) {
+        if let Some(first) = self.octets.first() {
+            self.repair_checksum_over(4 * usize::from(first & 0x0f));
+        }
+    }
+
+    pub fn repair_checksum_over(&mut self, length: usize) {
         if self.layout.ipv4 && self.octets.len() >= 20 {
             self.set16(10, 0);
-            let header_length =
-                (4 * usize::from(self.octets[0] & 0x0f)).clamp(20, self.octets.len());
-            let checksum = ipv4::checksum(&self.octets[..header_length]);
+            let length = length.clamp(20, self.octets.len());
+            let checksum = ipv4::checksum(&self.octets[..length]);
             self.set16(10, checksum.into());
         }
     }
