@@ -31,3 +31,4 @@ pub mod Splices
 pub mod Fields
 pub mod PathFields
 pub mod D4Fields
+pub mod Judging

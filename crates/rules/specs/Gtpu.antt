@@ -117,13 +117,16 @@ gtpuFlags = 0x20 + 0x10 + 0x04
 abbrev pub flowOctet : (direction qfi reflective : ℕ) → ℕ
 flowOctet direction qfi reflective = cond (eqb direction downlink) (reflective * 64) 0 + qfi
 
--- a G-PDU: E only, sequence and N-PDU number 0, one container of one unit in a direction, then the inner packet (house)
-abbrev pub gtpu : (direction : ℕ) (args : Args) (inner : List ℕ) → List ℕ
-gtpu direction args inner =
-    gtpuFlags ∷ gPdu ∷ put16 (8 + length inner)
+-- a G-PDU: E only, sequence and N-PDU number 0, one container of one unit in a direction (house); its inner packet of some size follows
+abbrev pub gtpu : (direction : ℕ) (args : Args) (size : ℕ) (rest : List ℕ) → List ℕ
+gtpu direction args size rest =
+    gtpuFlags ∷ gPdu ∷ put16 (8 + size)
     (args .teid
-    ++ (0 ∷ 0 ∷ 0 ∷ pduSessionContainer ∷ 1 ∷ (direction * 16) ∷ flowOctet direction (args .qfi) (args .reflective) ∷ 0 ∷ inner))
+    ++ (0 ∷ 0 ∷ 0 ∷ pduSessionContainer ∷ 1 ∷ (direction * 16) ∷ flowOctet direction (args .qfi) (args .reflective) ∷ 0 ∷ rest))
 
--- with its UDP header
+-- with its UDP header: 24 octets before the inner packet
+abbrev pub datagramBefore : (sourcePort direction : ℕ) (args : Args) (size : ℕ) (rest : List ℕ) → List ℕ
+datagramBefore sourcePort direction args size rest = udp sourcePort (24 + size) 0 (gtpu direction args size rest)
+
 abbrev pub datagramOctets : (sourcePort direction : ℕ) (args : Args) (inner : List ℕ) → List ℕ
-datagramOctets sourcePort direction args inner = udp sourcePort (24 + length inner) 0 (gtpu direction args inner)
+datagramOctets sourcePort direction args inner = datagramBefore sourcePort direction args (length inner) inner

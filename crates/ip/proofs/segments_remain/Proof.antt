@@ -1,0 +1,15 @@
+use Rattle.rules.proofs.Judging.{any-given}
+use Rattle.rules.specs.Answer.{differs}
+use lib.Dec.{eqb}
+use mathlib.Core.List.{[], _∷_}
+use Rattle.ip.proofs.segments_remain.Statement.{statement}
+use Rattle.ip.proofs.segments_remain.Tie as tie
+use Rattle.ip.proofs.segments_remain.Reads as reads
+use Rattle.ip.proofs.segments_remain.Lts as lts
+
+-- src/lib.rt:105:1
+returns : tie.Need-returns
+returns c = let h = c .before .before .args .h in any-given (eqb (h .nextHeader) 43) (differs (h .segmentsLeft) 0 ∷ [])
+
+pub segments-remain-spec : {M : Type 1} → statement M
+segments-remain-spec = tie.close (tie.spec returns)

@@ -1,0 +1,72 @@
+-- How code that tests rows one by one is proved: each `return` follows from the tests that led there.
+use mathlib.Core.Path.{_≡_, refl, sym, ap, _∙_}
+use mathlib.Core.Bool.{Bool, true, false, not, cond, _&&_, _||_}
+use mathlib.Core.List.{List, [], _∷_, _++_}
+use Prim.Native.Nat.{ℕ}
+use native.Mathlib.Omega.{arith}
+use Rattle.rules.specs.Answer.{Row, given, any, verdict, Outcome, Sent, Refused, after, unless}
+use Rattle.rules.specs.declared.Refusal.{Refusal}
+use Rattle.rules.specs.declared.Verdict.{Verdict}
+use Rattle.rules.specs.declared.Verdict.the-variants.{Pass, Refuse}
+
+-- a row that answers, one that is passed, none left
+pub row-yes : (bs : List Bool) (ρ : Refusal) (rs : List Row) → any bs ≡ true → Refuse ρ ≡ verdict (record { tests = bs; refusal = ρ } ∷ rs)
+unfolding verdict
+row-yes bs ρ rs e = rw e
+
+pub row-no : (bs : List Bool) (ρ : Refusal) (rs : List Row) (z : Verdict) → any bs ≡ false → z ≡ verdict rs → z ≡ verdict (record { tests = bs; refusal = ρ } ∷ rs)
+unfolding verdict
+row-no bs ρ rs z e p = rw e p
+
+pub row-none : Pass ≡ verdict []
+unfolding verdict
+row-none = refl
+
+-- a row's tests, as a callee's result
+pub is-true : (r b : Bool) → r ≡ b → r ≡ true → b ≡ true
+is-true r b p q = sym p ∙ q
+
+pub is-false : (r b : Bool) → r ≡ b → r ≡ false → b ≡ false
+is-false r b p q = sym p ∙ q
+
+pub only-true : (r b : Bool) → r ≡ b → r ≡ true → any (b ∷ []) ≡ true
+only-true r b p q = ap (λ (x : Bool). x || false) (sym p ∙ q)
+
+pub only-false : (r b : Bool) → r ≡ b → r ≡ false → any (b ∷ []) ≡ false
+only-false r b p q = ap (λ (x : Bool). x || false) (sym p ∙ q)
+
+-- for `search judged depth 20`, where each row is a callee's bool
+pub ruleset judged = (row-yes, row-no, row-none, is-true, is-false, only-true, only-false)
+
+-- tests made under a condition
+pub any-given : (c : Bool) (bs : List Bool) → (c && any bs) ≡ any (given c bs)
+any-given true bs = refl
+any-given false bs = refl
+
+-- ROWS ONE AFTER THE OTHER
+
+-- the first of two verdicts that refuses
+abbrev pub first : Verdict → Verdict → Verdict
+first Pass w = w
+first (Refuse ρ) w = Refuse ρ
+
+pub verdict-append : (xs ys : List Row) → verdict (xs ++ ys) ≡ first (verdict xs) (verdict ys)
+unfolding verdict
+verdict-append [] ys = refl
+verdict-append (x ∷ xs) ys = go (any (x .tests)) (verdict-append xs ys)
+  where
+    go : (b : Bool) → verdict (xs ++ ys) ≡ first (verdict xs) (verdict ys)
+        → cond b (Refuse (x .refusal)) (verdict (xs ++ ys)) ≡ first (cond b (Refuse (x .refusal)) (verdict xs)) (verdict ys)
+    go true e = refl
+    go false e = e
+
+pub both : (xs ys : List Row) (a b z : Verdict) → z ≡ first a b → a ≡ verdict xs → b ≡ verdict ys → z ≡ verdict (xs ++ ys)
+both xs ys a b z e p q = e ∙ ap (λ (v : Verdict). first v b) p ∙ ap (λ (v : Verdict). first (verdict xs) v) q ∙ sym (verdict-append xs ys)
+
+after-first : (v w : Verdict) (o : Outcome) → after (first v w) o ≡ after v (after w o)
+after-first Pass w o = refl
+after-first (Refuse ρ) w o = refl
+
+-- rows joined decide as rows nested do
+pub unless-append : (xs ys : List Row) (o : Outcome) → unless (xs ++ ys) o ≡ unless xs (unless ys o)
+unless-append xs ys o = ap (λ (v : Verdict). after v o) (verdict-append xs ys) ∙ after-first (verdict xs) (verdict ys) o
