@@ -7,7 +7,7 @@ use Prim.Native.Nat.{ℕ}
 use lib.Dec.{T, ltb}
 use Rattle.rules.specs.Answer.{Row, plain, lengthRow, roomRow}
 use Rattle.rules.specs.Datagram.{innerRows, messageRows, gPduRows}
-use Rattle.rules.specs.Waypoint.{waypointRows}
+use Rattle.rules.specs.Waypoint.{waypointRows, stepRows}
 use Rattle.rules.specs.Gtp6D.{gtp6Rows, gtp6DRows}
 use Rattle.rules.specs.E6.{e6Rows}
 use Rattle.rules.specs.E4.{e4Rows}
@@ -41,7 +41,7 @@ module _ (t : List ℕ) (room : ℕ) (x : List ℕ) (h : Header) where
 
   pub waypoint-refusals : refusals (waypointRows h ++ roomRow room x ∷ [])
       ≡ plain 5 ∷ icmp 6 3 0 0 ∷ icmp 7 4 0 43 ∷ icmp 8 4 4 (h .upperAt) ∷ plain 16 ∷ []
-  unfolding waypointRows
+  unfolding waypointRows stepRows
   waypoint-refusals = refl
 
   -- D and Di
@@ -79,5 +79,5 @@ module _ (t : List ℕ) (room : ℕ) (x : List ℕ) (h : Header) where
       && (below 4 (refusals (e6Rows e h ++ (lengthRow size ∷ roomRow room x ∷ [])))
       && (below 4 (refusals (e4Rows e h ++ (lengthRow size ∷ roomRow room x ∷ [])))
       && below 4 (refusals (gtp4Rows h4 g ++ (messageRows g ++ (gPduRows direction g ++ (d4Rows r inner ++ roomRow room x ∷ [])))))))))
-  unfolding waypointRows gtp6Rows messageRows gPduRows innerRows e6Rows e4Rows gtp4Rows
+  unfolding waypointRows stepRows gtp6Rows messageRows gPduRows innerRows e6Rows e4Rows gtp4Rows
   ascending g h4 e r path direction size inner = tt

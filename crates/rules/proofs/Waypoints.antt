@@ -16,7 +16,7 @@ use Rattle.rules.specs.Ipv6.{ipv6}
 use Rattle.rules.specs.Srh.{segment, segments, srh}
 use Rattle.rules.specs.Srv6.{srv6Payload}
 use Rattle.rules.specs.Header.{header, malformed}
-use Rattle.rules.specs.Waypoint.{withRouting, forwarded, waypointRows}
+use Rattle.rules.specs.Waypoint.{withRouting, forwarded, waypointRows, stepRows}
 use Rattle.rules.specs.declared.Header.{Header}
 use Rattle.rules.proofs.Windows.{drop-past, window-length, window-drop, window-past, window-front}
 use Rattle.rules.proofs.Rows.{Clear, None, clear}
@@ -142,7 +142,7 @@ module _ (class upper hop : ℕ) (source : List ℕ) (held path : List (List ℕ
 
   -- no row applies at a waypoint while a segment is left
   pub way-rows : 1 < length path → 1 < hop → None (waypointRows (header (onTheWay class upper hop source held path inner)))
-  unfolding waypointRows
+  unfolding waypointRows stepRows
   way-rows hl hh = rw (way-header, lt-ltb 0 (length path - 1) (omega arith)) (omega clear)
 
 -- the segment that has as many behind it as rest has

@@ -21,7 +21,7 @@ use Rattle.rules.specs.Header.{header}
 use Rattle.rules.specs.Datagram.{innerRows, datagram, messageRows, gPduRows}
 use Rattle.rules.specs.Session.{innerProtocol, accepts}
 use Rattle.rules.specs.Carried.{carriedBy, carried6, carried4}
-use Rattle.rules.specs.Waypoint.{withRouting, forwarded, waypointRows, atWaypoint}
+use Rattle.rules.specs.Waypoint.{withRouting, forwarded, waypointRows, stepRows, atWaypoint}
 use Rattle.rules.specs.Gtp6D.{gtp6DPacket, gtp6Rows, atGtp6D}
 use Rattle.rules.specs.D.{dPath, dPacket, atD}
 use Rattle.rules.specs.Di.{diPath, diPacket, atDi}
@@ -122,5 +122,5 @@ examples =
     ∷ []
 
 pub worked : T (right examples)
-unfolding examples window number splice firstBits under clear entryAt ruleAt policyAt addressesAt longest matchEntry matchRule all headerSound entrySound ruleSound policySound sameEntryPrefix sameRulePrefix distinct soundWithin segment onesSum argsAt withArgs verdict settle overlay header datagram messageRows gPduRows innerProtocol accepts carriedBy carried6 carried4 withRouting forwarded waypointRows atWaypoint gtp6DPacket gtp6Rows innerRows atGtp6D dPath dPacket atD diPath diPacket atDi e6Carried e6Packet e6Rows atE6 d4Sid d4Source frontRows6 atEntry atFoundEntry decide6 translate6 trip
+unfolding examples window number splice firstBits under clear entryAt ruleAt policyAt addressesAt longest matchEntry matchRule all headerSound entrySound ruleSound policySound sameEntryPrefix sameRulePrefix distinct soundWithin segment onesSum argsAt withArgs verdict settle overlay header datagram messageRows gPduRows innerProtocol accepts carriedBy carried6 carried4 withRouting forwarded waypointRows stepRows atWaypoint gtp6DPacket gtp6Rows innerRows atGtp6D dPath dPacket atD diPath diPacket atDi e6Carried e6Packet e6Rows atE6 d4Sid d4Source frontRows6 atEntry atFoundEntry decide6 translate6 trip
 worked = tt

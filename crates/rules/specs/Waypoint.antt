@@ -31,16 +31,19 @@ unfoldable pub forwarded : List ℕ → List ℕ
 forwarded p = withRouting p (step (routing p) (Srh.segment p (Srh.segmentsLeft p - 1)))
 
 -- a segment is left
-abbrev pub underway : Header → Bool
-underway h = hasSrh h && ltb 0 (h .segmentsLeft)
+abbrev pub underway : (segmentsLeft : ℕ) → Header → Bool
+underway segmentsLeft h = hasSrh h && ltb 0 segmentsLeft
+
+-- rows 6, 7 and 8: what a step from a routing state refuses
+unfoldable pub stepRows : (segmentsLeft hopLimit : ℕ) → Header → List Row
+stepRows segmentsLeft hopLimit h =
+    hopLimitRow (given (underway segmentsLeft h) (leb hopLimit 1 ∷ []))
+    ∷ segmentsLeftRow (given (underway segmentsLeft h) (beyondHeld h ∷ ltb (h .lastEntry + 1) segmentsLeft ∷ []))
+    ∷ upperLayerRow (not (underway segmentsLeft h) ∷ []) (h .upperAt)
+    ∷ []
 
 unfoldable pub waypointRows : Header → List Row
-waypointRows h =
-    row (badChain h) 5
-    ∷ hopLimitRow (given (underway h) (leb (h .hopLimit) 1 ∷ []))
-    ∷ segmentsLeftRow (given (underway h) (beyondHeld h ∷ ltb (h .lastEntry + 1) (h .segmentsLeft) ∷ []))
-    ∷ upperLayerRow (not (underway h) ∷ []) (h .upperAt)
-    ∷ []
+waypointRows h = row (badChain h) 5 ∷ stepRows (h .segmentsLeft) (h .hopLimit) h
 
 unfoldable pub atWaypoint : List ℕ → Outcome
 atWaypoint p = unless (waypointRows (header p)) (Sent (forwarded p))
