@@ -25,7 +25,7 @@ pub clear-any : (bs : List Bool) → Clear bs → any bs ≡ false
 clear-any [] n = refl
 clear-any (b ∷ bs) n = rw (n .0) (clear-any bs (n .1))
 
-any-clear : (bs : List Bool) → any bs ≡ false → Clear bs
+pub any-clear : (bs : List Bool) → any bs ≡ false → Clear bs
 any-clear [] e = tt
 any-clear (true ∷ bs) e = absurd (true≢false e)
 any-clear (false ∷ bs) e = (refl, any-clear bs e)

@@ -1,0 +1,65 @@
+// Answers.
+ghost use mathlib.Core.Path.{_≡_};
+ghost use mathlib.Core.List.{List, []};
+ghost use Prim.Native.Nat.{ℕ, _<_};
+ghost use Rattle.rules.specs.Answer.{Refused, packedFields};
+ghost use Rattle.gateway.specs.Answered.{answerOf};
+
+// A number of the answer table with its ICMP fields, and the octets sent.
+pub struct Answer {
+    pub number: u8,
+    pub icmpType: u8,
+    pub icmpCode: u8,
+    pub pointer: u16,
+    pub size: usize,
+}
+
+impl Answer {
+    pub fn refused(r: rules::Refusal) -> Answer
+        ensures { λ a. ⌜ (a ≡ answerOf (Refused r)) × (a .size < 65700) ⌝ }
+    {
+        Answer {
+            number: r.number,
+            icmpType: r.icmpType,
+            icmpCode: r.icmpCode,
+            pointer: r.pointer,
+            size: 0,
+        }
+    }
+
+    pub fn plain(number: u8) -> Answer
+        ensures { λ a. ⌜ (a ≡ record { number = number; icmpType = 0; icmpCode = 0; pointer = 0; size = 0 }) × (a .size < 65700) ⌝ }
+    {
+        Answer {
+            number,
+            icmpType: 0,
+            icmpCode: 0,
+            pointer: 0,
+            size: 0,
+        }
+    }
+
+    pub fn sent(size: usize) -> Answer
+        ensures { λ a. ⌜ a ≡ record { number = 0; icmpType = 0; icmpCode = 0; pointer = 0; size = size } ⌝ }
+    {
+        Answer {
+            number: 0,
+            icmpType: 0,
+            icmpCode: 0,
+            pointer: 0,
+            size,
+        }
+    }
+
+    // All of it in one number: number in bits 0 to 7, ICMP type from 8, code from 16, pointer from 24, length from 40 on.
+    pub fn pack(self) -> u64
+        requires { ⌜ self .size < 65700 ⌝ }
+        ensures { λ r. ⌜ r ≡ packedFields (self .number) (self .icmpType) (self .icmpCode) (self .pointer) (self .size) ⌝ }
+    {
+        self.number as u64
+            + self.icmpType as u64 * 0x100
+            + self.icmpCode as u64 * 0x10000
+            + self.pointer as u64 * 0x1000000
+            + self.size as u64 * 0x10000000000
+    }
+}
