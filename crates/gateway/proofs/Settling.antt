@@ -5,13 +5,14 @@ use mathlib.Core.List.{List, [], _∷_, _++_}
 use Prim.Native.Nat.{ℕ, _≤_, _<_}
 use lib.ListN.{length}
 use lib.Dec.{ltb}
-use borrow.Author.Tests.{lt-ltb}
+use borrow.Author.Tests.{lt-ltb, le-ltb}
 use Rattle.rules.specs.Octets.{splice}
-use Rattle.rules.specs.Answer.{Row, plain, roomRow, verdict, Outcome, Sent, Refused, after, unless, settle, overlay, packed, packedFields}
+use Rattle.rules.specs.Answer.{Row, plain, any, roomRow, verdict, Outcome, Sent, Refused, after, unless, settle, overlay, packed, packedFields}
 use Rattle.rules.specs.declared.Refusal.{Refusal}
 use Rattle.rules.specs.declared.Verdict.{Verdict}
 use Rattle.rules.specs.declared.Verdict.the-variants.{Pass, Refuse}
 use Rattle.rules.proofs.Rows.{settle-sent}
+use Rattle.rules.proofs.Judging.{unless-append, judged}
 use Rattle.gateway.specs.declared.answer.Answer.{Answer}
 use Rattle.gateway.specs.Answered.{answerOf, Answered}
 
@@ -54,3 +55,19 @@ pass-settles room rs o e = ap (λ (v : Verdict). settle room (after v o)) e
 -- an answer stays one where the outcome is said otherwise
 pub answered-as : (o o′ : Outcome) (b b′ : List ℕ) (a : Answer) → o ≡ o′ → Answered o b a b′ → Answered o′ b a b′
 answered-as o o′ b b′ a q r = rw (← q) r
+
+-- the same where the rows stand in two lists
+pub joined-refuses : (room : ℕ) (xs ys : List Row) (o : Outcome) (ρ : Refusal) → verdict (xs ++ ys) ≡ Refuse ρ → settle room (unless xs (unless ys o)) ≡ Refused ρ
+joined-refuses room xs ys o ρ e = ap (settle room) (sym (unless-append xs ys o)) ∙ refuse-settles room (xs ++ ys) o ρ e
+
+pub joined-passes : (room : ℕ) (xs ys : List Row) (o : Outcome) → verdict (xs ++ ys) ≡ Pass → settle room (unless xs (unless ys o)) ≡ settle room o
+joined-passes room xs ys o e = ap (settle room) (sym (unless-append xs ys o)) ∙ pass-settles room (xs ++ ys) o e
+
+-- a row of one test that the code makes itself
+pub over : (a b : ℕ) → a < b → any (ltb a b ∷ []) ≡ true
+over a b h = rw (lt-ltb a b h)
+
+pub not-over : (a b : ℕ) → b ≤ a → any (ltb a b ∷ []) ≡ false
+not-over a b h = rw (le-ltb a b h)
+
+pub ruleset judged-here = (judged, over, not-over)

@@ -1,3 +1,5 @@
 // The two calls: from a packet and table octets to a packet written, or a refusal. One module for each behaviour.
 pub mod answer;
+mod session;
 mod waypoint;
+mod e6;

@@ -1,0 +1,29 @@
+use borrow.Author.Needs.{needs}
+use Rattle.rules.specs.Datagram.{messageRows}
+use Rattle.gtpu.proofs.Laws.{judged-by}
+use Rattle.gtpu.proofs.judge_message.Statement.{statement}
+use Rattle.gtpu.proofs.judge_message.Tie as tie
+
+returns : tie.Need-returns
+unfolding messageRows
+returns c = search judged-by depth 20
+
+returns-2 : tie.Need-returns-2
+unfolding messageRows
+returns-2 c = search judged-by depth 20
+
+returns-3 : tie.Need-returns-3
+unfolding messageRows
+returns-3 c = search judged-by depth 20
+
+pub judge-message-spec : {M : Type 1} → statement M
+judge-message-spec =
+    tie.close
+    (tie.spec
+    (λ c κs. search needs)
+    (λ c κs. search needs)
+    returns
+    (λ c κs. search needs)
+    (λ c κs. search needs)
+    returns-2
+    returns-3)

@@ -1,0 +1,283 @@
+// UDP (RFC 768), GTP-U (TS 29.281) and the PDU Session container (TS 38.415): what is read of a datagram, the tests of rows 8 to 14, and how a G-PDU is written.
+ghost use mathlib.Core.Path.{_≡_};
+ghost use mathlib.Core.List.{[], _∷_};
+ghost use Prim.Native.Nat.{ℕ, _+_, _*_, _/_, _≤_, _<_};
+ghost use lib.Dec.{ltb};
+ghost use lib.ListN.{length, drop};
+ghost use Rattle.rules.specs.Assigned.{gPdu};
+ghost use Rattle.rules.specs.Answer.{differs, any, plain, verdict};
+ghost use Rattle.rules.specs.Datagram.{datagramOf, datagram, notGtpu, badUdp, badGtpu, extended, badExtensions, badContainer, badInner, messageRows, gPduRows, innerRows};
+ghost use Rattle.rules.specs.Gtpu as Gtpu;
+ghost use Rattle.rules.specs.declared.Verdict.the-variants.{Refuse};
+ghost use Rattle.octets.specs.Run.{Run};
+ghost use Rattle.args.specs.Value.{value};
+
+const UDP: u8 = 17;
+
+const UDP_SIZE: usize = 8;
+
+const GTPU_PORT: u16 = 2152;
+
+// GTP-U (TS 29.281, 5.1 and 5.2.1), places from the start of the UDP header on. The message length counts from MESSAGE_AT on.
+const TEID_AT: usize = 12;
+
+const MESSAGE_AT: usize = 16;
+
+const EXTENSION_AT: usize = 20;
+
+const G_PDU: u8 = 255;
+
+const PDU_SESSION_CONTAINER: u8 = 0x85;
+
+// What is written: version 1, PT and E; a container of one unit.
+const FLAGS: u8 = 0x20 + 0x10 + 0x04;
+
+const UNITS: u8 = 1;
+
+const IPV4V6: u8 = 3;
+
+fn teid_of(front: [u8; 24]) -> [u8; 4]
+    ensures { λ r. ⌜ r ≡ Gtpu.teid front ⌝ }
+{
+    [
+        front[TEID_AT],
+        front[TEID_AT + 1],
+        front[TEID_AT + 2],
+        front[TEID_AT + 3],
+    ]
+}
+
+// Its PDU type is the high half of the first content octet (TS 38.415, 5.5.2).
+fn pdu_type(content: u8) -> u8
+    ensures { λ r. ⌜ r ≡ content / 16 ⌝ }
+{
+    content / 16
+}
+
+// Where the first extension ends: its length is in units of four octets.
+fn extension_end(units: u8) -> usize
+    ensures { λ r. ⌜ (r ≡ 20 + 4 * units) × (r < 1041) ⌝ }
+{
+    EXTENSION_AT + 4 * (units as usize)
+}
+
+// The numbers of a datagram of `size` octets that begins with `front`; `following` is the type behind its first extension.
+pub fn datagram_of(front: [u8; 24], size: usize, following: u8) -> rules::Datagram
+    ensures { λ r. ⌜ r ≡ datagramOf front size following ⌝ }
+{
+    rules::Datagram {
+        size,
+        destinationPort: octets::join16(front[2], front[3]),
+        length: octets::join16(front[4], front[5]),
+        flags: front[8],
+        messageType: front[9],
+        messageLength: octets::join16(front[10], front[11]),
+        teid: teid_of(front),
+        extensionType: front[EXTENSION_AT - 1],
+        extensionUnits: front[EXTENSION_AT],
+        pduType: pdu_type(front[EXTENSION_AT + 1]),
+        followingType: following,
+    }
+}
+
+// The last octet of an extension says what follows it.
+fn following_at(at: usize, units: u8) -> usize
+    requires { ⌜ at < 65536 ⌝ }
+    ensures { λ r. ⌜ r ≡ at + (19 + 4 * units) ⌝ }
+{
+    at + extension_end(units) - 1
+}
+
+// The datagram that begins at octet `at` of a packet.
+pub fn datagram_at(packet: &[u8], at: usize) -> rules::Datagram
+    requires { ⌜ at < 65536 ⌝ }
+    ensures { λ r. ⌜ r ≡ datagram (drop at (now (packet .entry))) ⌝ }
+{
+    let front = octets::window24(packet, at);
+    let size = octets::less(packet.len(), at);
+    let following = octets::octet_or_0(packet, following_at(at, front[EXTENSION_AT]));
+    datagram_of(front, size, following)
+}
+
+// Row 8: the port is read only if 8 octets are there.
+pub fn not_gtpu(protocol: u8, g: rules::Datagram) -> bool
+    ensures { λ r. ⌜ r ≡ any (notGtpu protocol g) ⌝ }
+{
+    (protocol != UDP) | ((UDP_SIZE <= g.size) & ((g.destinationPort != GTPU_PORT) | false))
+}
+
+// Row 9.
+fn bad_udp(g: rules::Datagram) -> bool
+    ensures { λ r. ⌜ r ≡ any (badUdp g) ⌝ }
+{
+    (g.size < UDP_SIZE) | ((g.length as usize != g.size) | false)
+}
+
+// Row 10: version 1 and PT are the high four bits; E, S and PN, the low three, stand for four octets more.
+fn bad_gtpu(g: rules::Datagram) -> bool
+    ensures { λ r. ⌜ r ≡ any (badGtpu g) ⌝ }
+{
+    (g.size < MESSAGE_AT)
+        | ((g.flags / 16 != 3)
+            | ((MESSAGE_AT + g.messageLength as usize != g.size)
+                | ((0 < g.flags % 8) & ((g.size < EXTENSION_AT) | false))))
+}
+
+// Row 11.
+fn not_gpdu(g: rules::Datagram) -> bool
+    ensures { λ r. ⌜ r ≡ any (differs (g .messageType) gPdu ∷ []) ⌝ }
+{
+    (g.messageType != G_PDU) | false
+}
+
+// E is set and a type follows.
+fn is_extended(g: rules::Datagram) -> bool
+    ensures { λ r. ⌜ r ≡ extended g ⌝ }
+{
+    (g.flags / 4 % 2 == 1) & (0 < g.extensionType)
+}
+
+// Row 12: one PDU Session container and nothing behind it.
+fn bad_extensions(g: rules::Datagram) -> bool
+    ensures { λ r. ⌜ r ≡ any (badExtensions g) ⌝ }
+{
+    is_extended(g)
+        & ((g.extensionType != PDU_SESSION_CONTAINER)
+            | ((g.extensionUnits == 0)
+                | ((g.size < extension_end(g.extensionUnits)) | ((g.followingType != 0) | false))))
+}
+
+// Row 13.
+fn bad_container(direction: u8, g: rules::Datagram) -> bool
+    ensures { λ r. ⌜ r ≡ any (badContainer direction g) ⌝ }
+{
+    (!is_extended(g)) | ((g.pduType != direction) | false)
+}
+
+// Row 14: an inner packet of `size` octets with the octet `first` in front.
+fn bad_inner(session: u8, size: usize, first: u8) -> bool
+    ensures { λ r. ⌜ r ≡ any (badInner session size first) ⌝ }
+{
+    (session == IPV4V6) & ((size == 0) | (((first / 16 != 4) & (first / 16 != 6)) | false))
+}
+
+// Row 15.
+fn too_long(field: usize) -> bool
+    ensures { λ r. ⌜ r ≡ ltb 65535 field ⌝ }
+{
+    65535 < field
+}
+
+// A refusal without ICMP fields.
+fn refuse(number: u8) -> rules::Verdict
+    ensures { λ r. ⌜ r ≡ Refuse (plain number) ⌝ }
+{
+    rules::Verdict::Refuse(rules::Refusal {
+        number,
+        icmpType: 0,
+        icmpCode: 0,
+        pointer: 0,
+    })
+}
+
+// Rows 9 and 10.
+pub fn judge_message(g: rules::Datagram) -> rules::Verdict
+    ensures { λ r. ⌜ r ≡ verdict (messageRows g) ⌝ }
+{
+    if bad_udp(g) {
+        return refuse(9);
+    }
+    if bad_gtpu(g) {
+        return refuse(10);
+    }
+    rules::Verdict::Pass
+}
+
+// Rows 11 to 13.
+pub fn judge_gpdu(direction: u8, g: rules::Datagram) -> rules::Verdict
+    ensures { λ r. ⌜ r ≡ verdict (gPduRows direction g) ⌝ }
+{
+    if not_gpdu(g) {
+        return refuse(11);
+    }
+    if bad_extensions(g) {
+        return refuse(12);
+    }
+    if bad_container(direction, g) {
+        return refuse(13);
+    }
+    rules::Verdict::Pass
+}
+
+// Rows 14 and 15; `field` is the length field of what is to be sent.
+pub fn judge_inner(session: u8, size: usize, first: u8, field: usize) -> rules::Verdict
+    ensures { λ r. ⌜ r ≡ verdict (innerRows session size first field) ⌝ }
+{
+    if bad_inner(session, size, first) {
+        return refuse(14);
+    }
+    if too_long(field) {
+        return refuse(15);
+    }
+    rules::Verdict::Pass
+}
+
+// What a G-PDU carries beside its inner packet, of the datagram that begins at octet `at` of a packet.
+pub fn args_at(packet: &[u8], at: usize) -> args::Args
+    ensures { λ r. ⌜ value r ≡ record { qfi = Gtpu.qfi (drop at (now (packet .entry))); reflective = Gtpu.reflective (drop at (now (packet .entry))); teid = Gtpu.teid (drop at (now (packet .entry))) } ⌝ }
+{
+    let front = octets::window24(packet, at);
+    let kind = pdu_type(front[EXTENSION_AT + 1]);
+    args::Args::from_container(kind, front[EXTENSION_AT + 2], teid_of(front))
+}
+
+// Where the inner packet begins in the datagram.
+pub fn inner_at(g: rules::Datagram) -> usize
+    ensures { λ r. ⌜ (r ≡ 20 + 4 * g .extensionUnits) × (r < 1041) ⌝ }
+{
+    extension_end(g.extensionUnits)
+}
+
+// The 24 octets before an inner packet of `size` octets: UDP checksum, sequence number and N-PDU number are 0.
+pub fn put_datagram(
+    out: &mut [u8],
+    at: usize,
+    port: u16,
+    direction: u8,
+    args: args::Args,
+    size: usize,
+)
+    requires { ⌜ (at + 24 ≤ length (now out)) × (24 + size < 65536) × (direction < 16) ⌝ }
+    ensures { λ _. ⌜ Run (now (out .entry)) at 24 (Gtpu.datagramBefore port direction (value args) size []) (now (out .exit)) ⌝ }
+{
+    let all = 24 + size;
+    let message = 8 + size;
+    let teid = args.teid();
+    let head = [
+        (port / 256) as u8,
+        (port % 256) as u8,
+        (GTPU_PORT / 256) as u8,
+        (GTPU_PORT % 256) as u8,
+        (all / 256) as u8,
+        (all % 256) as u8,
+        0,
+        0,
+        FLAGS,
+        G_PDU,
+        (message / 256) as u8,
+        (message % 256) as u8,
+        teid[0],
+        teid[1],
+        teid[2],
+        teid[3],
+        0,
+        0,
+        0,
+        PDU_SESSION_CONTAINER,
+        UNITS,
+        direction * 16,
+        args.flow_octet(direction),
+        0,
+    ];
+    octets::copy_to(out, at, &head);
+}
