@@ -3,3 +3,4 @@ pub mod answer;
 mod session;
 mod waypoint;
 mod e6;
+mod e4;
