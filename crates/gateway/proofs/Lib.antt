@@ -1,3 +1,4 @@
 pub mod Settling
 pub mod Steps
 pub mod Tunnels
+pub mod Paths

@@ -1,6 +1,8 @@
 // The two calls: from a packet and table octets to a packet written, or a refusal. One module for each behaviour.
 pub mod answer;
 mod session;
+mod path;
 mod waypoint;
+mod d;
 mod e6;
 mod e4;
