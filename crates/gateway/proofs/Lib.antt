@@ -2,3 +2,4 @@ pub mod Settling
 pub mod Steps
 pub mod Tunnels
 pub mod Paths
+pub mod Nears

@@ -70,3 +70,19 @@ path-one {o} {o₁} {o₂} {o₃} class upper hops source to n size sid ws hs r�
     let r = next (next r₁ sid 16 e₂ hs refl (omega arith)) (segments ws []) (16 * (n - 1)) (r₃ .holds) (r₃ .count) refl (omega arith) in
     let k : 48 + 16 + 16 * (n - 1) ≡ 48 + 16 * n = omega arith in
     rw (← k) (run-as r (append-assoc (pathFront class upper hops source to n size) sid (segments ws []) ∙ rw append-nil))
+
+pub path-two : {o o₁ o₂ o₃ o₄ : List ℕ} (class upper hops : ℕ) (source to : List ℕ) (n size : ℕ) (sid end : List ℕ) (ws : List (List ℕ)) → length sid ≡ 16 → length end ≡ 16
+    → Run o 0 48 (pathFront class upper hops source to (n + 1) size) o₁ → o₂ ≡ splice o₁ 48 end → o₃ ≡ splice o₂ 64 sid → Run o₃ 80 (16 * (n - 1)) (segments ws []) o₄ → 1 ≤ n
+    → Run o 0 (64 + 16 * n) (pathHead class upper hops source to (n + 1) size (sid ∷ end ∷ []) ws) o₄
+unfolding pathHead
+path-two {o} {o₁} {o₂} {o₃} {o₄} class upper hops source to n size sid end ws hs he r₁ e₂ e₃ r₄ hn =
+    let f = pathFront class upper hops source to (n + 1) size in
+    let r = next (next (next r₁ end 16 e₂ he refl (omega arith)) sid 16 e₃ hs refl (omega arith)) (segments ws []) (16 * (n - 1)) (r₄ .holds) (r₄ .count) refl (omega arith) in
+    let k : 48 + 16 + 16 + 16 * (n - 1) ≡ 64 + 16 * n = omega arith in
+    let g : f ++ end ++ sid ++ segments ws [] ≡ f ++ (end ++ (sid ++ []) ++ segments ws []) = simp (append-nil, append-assoc) in
+    rw (← k) (run-as r g)
+
+-- the first address stays the first where one more stands at the end
+pub first-also : (ws : List (List ℕ)) (x z : List ℕ) → getD (ws ++ x ∷ []) 0 [] ≡ getD (ws ++ x ∷ z ∷ []) 0 []
+first-also [] x z = refl
+first-also (w ∷ ws) x z = refl

@@ -71,3 +71,17 @@ pub not-over : (a b : ℕ) → b ≤ a → any (ltb a b ∷ []) ≡ false
 not-over a b h = rw (le-ltb a b h)
 
 pub ruleset judged-here = (judged, over, not-over)
+
+-- and in four
+unless-four : (a b c d : List Row) (o : Outcome) → unless (a ++ (b ++ (c ++ d))) o ≡ unless a (unless b (unless c (unless d o)))
+unless-four a b c d o =
+    unless-append a (b ++ (c ++ d)) o
+    ∙ ap (unless a) (unless-append b (c ++ d) o ∙ ap (unless b) (unless-append c d o))
+
+pub four-refuse : (room : ℕ) (a b c d : List Row) (o : Outcome) (ρ : Refusal) → verdict (a ++ (b ++ (c ++ d))) ≡ Refuse ρ
+    → settle room (unless a (unless b (unless c (unless d o)))) ≡ Refused ρ
+four-refuse room a b c d o ρ e = ap (settle room) (sym (unless-four a b c d o)) ∙ refuse-settles room (a ++ (b ++ (c ++ d))) o ρ e
+
+pub four-pass : (room : ℕ) (a b c d : List Row) (o : Outcome) → verdict (a ++ (b ++ (c ++ d))) ≡ Pass
+    → settle room (unless a (unless b (unless c (unless d o)))) ≡ settle room o
+four-pass room a b c d o e = ap (settle room) (sym (unless-four a b c d o)) ∙ pass-settles room (a ++ (b ++ (c ++ d))) o e

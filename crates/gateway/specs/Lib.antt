@@ -1,3 +1,4 @@
 pub mod Answered
 pub mod Sight
 pub mod Heads
+pub mod Parts

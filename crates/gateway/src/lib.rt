@@ -2,7 +2,9 @@
 pub mod answer;
 mod session;
 mod path;
+mod tunnel;
 mod waypoint;
 mod d;
+mod di;
 mod e6;
 mod e4;

@@ -1,0 +1,74 @@
+// Di: End.M.GTP6.D.Di (RFC 9433, 6.4), the drop-in flow of 5.4.
+use crate::answer::Answer;
+use crate::d;
+use crate::path;
+use crate::session;
+use crate::tunnel;
+ghost use mathlib.Core.Path.{_≡_};
+ghost use mathlib.Core.List.{List, [], _∷_, _++_};
+ghost use Prim.Native.Nat.{ℕ, _+_, _-_, _*_, _≤_, _<_};
+ghost use lib.ListN.{length, getD, drop};
+ghost use Rattle.rules.specs.Octets.{octet, window};
+ghost use Rattle.rules.specs.Entry as Entry;
+ghost use Rattle.rules.specs.Policy as Policy;
+ghost use Rattle.rules.specs.Table.{addressesAt};
+ghost use Rattle.rules.specs.Answer.{settle, Sent};
+ghost use Rattle.rules.specs.Carried.{carried6};
+ghost use Rattle.rules.specs.Di.{diPacket, atDi};
+ghost use Rattle.octets.specs.Run.{Run};
+ghost use Rattle.args.specs.Value.{value};
+ghost use Rattle.gateway.specs.Answered.{Answered};
+ghost use Rattle.gateway.specs.Sight.{Sight};
+ghost use Rattle.gateway.specs.Parts.{Parts};
+ghost use Rattle.gateway.specs.Heads.{pathHead};
+
+// The headers before the inner packet: as D, with the arriving destination behind the last SID.
+fn put_head(e: &[u8], y: &[u8], n: usize, class: u8, upper: u8, sid: [u8; 16], to: [u8; 16], size: usize, out: &mut [u8])
+    requires { ⌜ (length (now e) ≡ 64) × (length (now y) ≡ 288) × (1 ≤ n) × (n ≤ 8) × (24 + 16 * n + size < 65536) × (64 + 16 * n ≤ length (now out)) ⌝ }
+    ensures { λ _. ⌜ Run (now (out .entry)) 0 (64 + 16 * n) (pathHead class upper (Entry.hopLimit (now (e .entry))) (Entry.source (now (e .entry))) (getD (addressesAt (now (y .entry)) 16 (n - 1) ++ sid ∷ to ∷ []) 0 []) (n + 1) size (sid ∷ to ∷ []) (addressesAt (now (y .entry)) 16 (n - 1))) (now (out .exit)) ⌝ }
+{
+    let first = d::first_sid(y, n, sid);
+    let source = octets::window16(e, 32);
+    path::put_front(out, class, upper, e[2], source, first, n + 1, size);
+    octets::copy_to(out, 48, &to);
+    octets::copy_to(out, 64, &sid);
+    srh::put_reversed(out, 80, y, 16, n - 1);
+}
+
+// Row 16, then the packet. The policy has n SIDs, and the inner packet stands at `place`.
+fn send(e: &[u8], y: &[u8], n: usize, class: u8, args: args::Args, packet: &[u8], place: usize, out: &mut [u8]) -> Answer
+    requires { ⌜ (length (now e) ≡ 64) × (length (now y) ≡ 288) × (n ≡ Policy.sidCount (now y)) × (1 ≤ n) × (n ≤ 8) × (Policy.start (now y) ≤ 88) × (24 + 16 * n + (length (now packet) - place) < 65536) × Parts (carried6 (now packet)) (now packet) class (value args) place ⌝ }
+    ensures { λ r. ⌜ Answered (settle (length (now (out .entry))) (Sent (diPacket (now (e .entry)) (now (y .entry)) (carried6 (now (packet .entry)))))) (now (out .entry)) r (now (out .exit)) ⌝ }
+{
+    let size = packet.len() - place;
+    if out.len() < 64 + 16 * n + size {
+        return Answer::plain(16);
+    }
+    let upper = session::inner_next(e[4], octets::octet_or_0(packet, place));
+    let last = octets::window16(y, 16 * n);
+    let sid = args.in_sid(last, y[1]);
+    let to = octets::window16(packet, 24);
+    put_head(e, y, n, class, upper, sid, to, size, out);
+    octets::copy_part(out, 64 + 16 * n, packet, place);
+    Answer::sent(64 + 16 * n + size)
+}
+
+// The packet at a Di entry, whose policy is y.
+pub fn at_di(e: &[u8], y: &[u8], h: rules::Header, packet: &[u8], out: &mut [u8]) -> Answer
+    requires { ⌜ (length (now e) ≡ 64) × (length (now y) ≡ 288) × (1 ≤ Policy.sidCount (now y)) × (Policy.sidCount (now y) ≤ 8) × (Policy.start (now y) ≤ 88) × Sight (now packet) h ⌝ }
+    ensures { λ r. ⌜ Answered (settle (length (now (out .entry))) (atDi (now (e .entry)) (now (y .entry)) (now (packet .entry)))) (now (out .entry)) r (now (out .exit)) ⌝ }
+{
+    let n = octets::wide(y[0]);
+    let at = h.upperAt as usize;
+    let g = gtpu::datagram_at(packet, at);
+    let place = at + gtpu::inner_at(g);
+    let size = octets::less(packet.len(), place);
+    let v = tunnel::judge(e, h, g, size, octets::octet_or_0(packet, place), 24 + 16 * n + size);
+    match v {
+        rules::Verdict::Refuse(r) => Answer::refused(r),
+        rules::Verdict::Pass => {
+            let args = gtpu::args_at(packet, at);
+            send(e, y, n, h.trafficClass, args, packet, place, out)
+        }
+    }
+}
