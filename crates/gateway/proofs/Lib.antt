@@ -3,3 +3,4 @@ pub mod Steps
 pub mod Tunnels
 pub mod Paths
 pub mod Nears
+pub mod Rules4

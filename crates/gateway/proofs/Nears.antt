@@ -122,7 +122,7 @@ module _ (e p : List ℕ) (path : List (List ℕ)) (made : List ℕ) (h : Header
 -- LENGTHS
 
 -- the length of a packet along a path
-srv6-size : (class upper hops : ℕ) (source : List ℕ) (path : List (List ℕ)) (inner : List ℕ) → length source ≡ 16 → Addresses path → 0 < length path
+pub srv6-size : (class upper hops : ℕ) (source : List ℕ) (path : List (List ℕ)) (inner : List ℕ) → length source ≡ 16 → Addresses path → 0 < length path
     → length (srv6 class upper hops source path inner) ≡ 48 + 16 * length path + length inner
 srv6-size class upper hops source [] inner hs ha h0 = absurd (omega arith)
 srv6-size class upper hops source (x ∷ path) inner hs ha h0 =

@@ -8,3 +8,4 @@ mod d;
 mod di;
 mod e6;
 mod e4;
+mod d4;

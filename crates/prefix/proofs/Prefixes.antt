@@ -1,0 +1,114 @@
+-- Laws of `under` and `clear` for octets in two parts: which part decides.
+use mathlib.Core.Path.{_≡_, refl, ap, sym, _∙_}
+use mathlib.Core.Bool.{Bool, true, false}
+use mathlib.Core.List.{List}
+use Prim.Native.Nat.{ℕ, _+_, _*_, _-_, _^_, _/_, _%_, _<_, _≤_}
+use native.Mathlib.Nat.{zero-add, mul-assoc, mul-add-div-right, mul-add-mod-self-right, mod-eq-of-lt, div-eq-of-lt, zero-div}
+use native.Mathlib.Omega.{arith}
+use borrow.Author.Tests.{eqb-true, eqb-false, eq-eqb, ne-eqb}
+use lib.Dec.{eqb}
+use lib.Pow.{pow-add, pow-pos, shr-shr, shr-lt, shl-shr, split, mod-pow-add, high, low}
+use Rattle.rules.specs.Octets.{number}
+use Rattle.rules.specs.Prefix.{firstBits, under, clear}
+use Rattle.prefix.proofs.Words.{number-parts}
+
+-- two tests that hold together are the same
+pub eqb-iff : (a b c d : ℕ) → (a ≡ b → c ≡ d) → (c ≡ d → a ≡ b) → eqb a b ≡ eqb c d
+eqb-iff a b c d f g = pick (eqb c d) refl
+  where
+    pick : (t : Bool) → eqb c d ≡ t → eqb a b ≡ t
+    pick true e = eq-eqb a b (g (eqb-true c d e))
+    pick false e = ne-eqb a b (λ h. eqb-false c d e (f h))
+
+eqb-add : (c x y : ℕ) → eqb (c + x) (c + y) ≡ eqb x y
+eqb-add c x y = eqb-iff (c + x) (c + y) x y (λ q. omega arith) (λ q. omega arith)
+
+-- n octets, and the m after them
+module _ (s : List ℕ) (n m b : ℕ) where
+  parts : number s 0 (n + m) ≡ number s 0 n * 2 ^ (8 * m) + number s n m
+  parts = number-parts s 0 n m ∙ rw (zero-add n) refl
+
+  bits-front : number s n m < 2 ^ (8 * m) → b ≤ 8 * n → firstBits (n + m) s b ≡ firstBits n s b
+  unfolding firstBits
+  bits-front h l =
+      let e : 8 * (n + m) - b ≡ 8 * m + (8 * n - b) = omega arith in
+      rw (parts, e, ← shr-shr, high (number s 0 n) (8 * m) h) refl
+
+  bits-back : 8 * n ≤ b → firstBits (n + m) s b ≡ number s 0 n * 2 ^ (8 * m - (8 * (n + m) - b)) + number s n m / 2 ^ (8 * (n + m) - b)
+  unfolding firstBits
+  bits-back l =
+      let k : ℕ = 8 * (n + m) - b in
+      let f : 8 * m ≡ (8 * m - k) + k = omega arith in
+      rw parts
+      (ap (λ (x : ℕ). (number s 0 n * 2 ^ x + number s n m) / 2 ^ k) f
+      ∙ rw (pow-add 2 (8 * m - k) k, ← mul-assoc (number s 0 n) (2 ^ (8 * m - k)) (2 ^ k))
+      (mul-add-div-right (pow-pos k) (number s 0 n * 2 ^ (8 * m - k)) (number s n m)))
+
+-- under a prefix of no bits lies everything
+pub under-none : (a p : List ℕ) (w : ℕ) → number a 0 w < 2 ^ (8 * w) → number p 0 w < 2 ^ (8 * w) → under w a p 0 ≡ true
+unfolding under firstBits
+under-none a p w ha hp = let e : 8 * w - 0 ≡ 8 * w = omega arith in rw (e, div-eq-of-lt ha, div-eq-of-lt hp) refl
+
+module _ (a p : List ℕ) (n m b : ℕ) (ha : number a n m < 2 ^ (8 * m)) (hp : number p n m < 2 ^ (8 * m)) where
+  -- within the first n octets the others do not count
+  pub under-front : b ≤ 8 * n → under (n + m) a p b ≡ under n a p b
+  unfolding under
+  under-front l = rw (bits-front a n m b ha l, bits-front p n m b hp l) refl
+
+  -- where the first n octets are the same, the others decide
+  pub under-same : 8 * n ≤ b → number a 0 n ≡ number p 0 n
+      → under (n + m) a p b ≡ eqb (number a n m / 2 ^ (8 * (n + m) - b)) (number p n m / 2 ^ (8 * (n + m) - b))
+  unfolding under
+  under-same l e =
+      rw (bits-back a n m b l, bits-back p n m b l, e)
+      (eqb-add (number p 0 n * 2 ^ (8 * m - (8 * (n + m) - b))) (number a n m / 2 ^ (8 * (n + m) - b)) (number p n m / 2 ^ (8 * (n + m) - b)))
+
+  -- where they are not, the address does not lie under the prefix
+  pub under-differ : 8 * n ≤ b → (number a 0 n ≡ number p 0 n → ⊥) → under (n + m) a p b ≡ false
+  unfolding under
+  under-differ l d =
+      let k : ℕ = 8 * (n + m) - b in
+      let f : 8 * m ≡ (8 * m - k) + k = omega arith in
+      let la : number a n m / 2 ^ k < 2 ^ (8 * m - k) = shr-lt (8 * m - k) k (rw (← f) ha) in
+      let lp : number p n m / 2 ^ k < 2 ^ (8 * m - k) = shr-lt (8 * m - k) k (rw (← f) hp) in
+      rw (bits-back a n m b l, bits-back p n m b l)
+      (ne-eqb _ _ (λ q. d (sym (high (number a 0 n) (8 * m - k) la) ∙ ap (λ (x : ℕ). x / 2 ^ (8 * m - k)) q ∙ high (number p 0 n) (8 * m - k) lp)))
+
+-- a word whose last k bits are 0 is what two shifts make of it
+pub shifted : (x k : ℕ) → x < 2 ^ 64 → eqb ((x / 2 ^ k * 2 ^ k) % 2 ^ 64) x ≡ eqb (x % 2 ^ k) 0
+shifted x k h =
+    let e : x / 2 ^ k * 2 ^ k + x % 2 ^ k ≡ x = split x k in
+    let l : x / 2 ^ k * 2 ^ k < 2 ^ 64 = omega arith in
+    rw (mod-eq-of-lt l) (eqb-iff (x / 2 ^ k * 2 ^ k) x (x % 2 ^ k) 0 (λ q. omega arith) (λ q. omega arith))
+
+zero-of : (x k : ℕ) → x * 2 ^ k ≡ 0 → x ≡ 0
+zero-of x k q = sym (shl-shr x k) ∙ ap (λ (y : ℕ). y / 2 ^ k) q ∙ zero-div (2 ^ k)
+
+module _ (p : List ℕ) (n m b : ℕ) (hp : number p n m < 2 ^ (8 * m)) where
+  -- past the first n octets those do not count
+  pub clear-back : 8 * n ≤ b → clear (n + m) p b ≡ eqb (number p n m % 2 ^ (8 * (n + m) - b)) 0
+  unfolding clear
+  clear-back l =
+      let k : ℕ = 8 * (n + m) - b in
+      let f : 8 * m ≡ (8 * m - k) + k = omega arith in
+      rw (parts p n m b)
+      (ap (λ (x : ℕ). eqb ((number p 0 n * 2 ^ x + number p n m) % 2 ^ k) 0) f
+      ∙ rw (pow-add 2 (8 * m - k) k, ← mul-assoc (number p 0 n) (2 ^ (8 * m - k)) (2 ^ k))
+      (ap (λ (x : ℕ). eqb x 0) (mul-add-mod-self-right (number p 0 n * 2 ^ (8 * m - k)) (2 ^ k) (number p n m))))
+
+  remainder : b ≤ 8 * n → number p 0 (n + m) % 2 ^ (8 * (n + m) - b) ≡ number p 0 n % 2 ^ (8 * n - b) * 2 ^ (8 * m) + number p n m
+  remainder l =
+      let e : 8 * (n + m) - b ≡ (8 * n - b) + 8 * m = omega arith in
+      rw (parts p n m b, e, mod-pow-add, high (number p 0 n) (8 * m) hp, low (number p 0 n) (8 * m) hp) refl
+
+  -- within them the others have to be 0
+  pub clear-front : b ≤ 8 * n → number p n m ≡ 0 → clear (n + m) p b ≡ clear n p b
+  unfolding clear
+  clear-front l z =
+      rw (remainder l, z)
+      (eqb-iff (number p 0 n % 2 ^ (8 * n - b) * 2 ^ (8 * m) + 0) 0 (number p 0 n % 2 ^ (8 * n - b)) 0
+      (λ q. zero-of (number p 0 n % 2 ^ (8 * n - b)) (8 * m) (omega arith)) (λ q. rw q (omega arith)))
+
+  pub clear-set : b ≤ 8 * n → (number p n m ≡ 0 → ⊥) → clear (n + m) p b ≡ false
+  unfolding clear
+  clear-set l z = rw (remainder l) (ne-eqb (number p 0 n % 2 ^ (8 * n - b) * 2 ^ (8 * m) + number p n m) 0 (λ q. z (omega arith)))

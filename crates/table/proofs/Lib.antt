@@ -1,0 +1,4 @@
+pub mod Bounds
+mod Conditions
+mod Longest
+mod Order

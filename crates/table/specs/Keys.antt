@@ -1,0 +1,13 @@
+-- The order of entries: by the prefix, then by its length.
+use mathlib.Core.List.{List}
+use Prim.Native.Nat.{ℕ, _+_, _*_}
+use Rattle.rules.specs.Octets.{number}
+use Rattle.rules.specs.Table.{entryAt}
+use Rattle.rules.specs.Entry.{prefix, prefixLength}
+
+-- the prefix of an entry with its length, as one number
+abbrev pub keyOf : (e : List ℕ) → ℕ
+keyOf e = number (prefix e) 0 16 * 256 + prefixLength e
+
+abbrev pub entryKey : (t : List ℕ) (i : ℕ) → ℕ
+entryKey t i = keyOf (entryAt t i)

@@ -1,0 +1,143 @@
+// No prefix with its length occurs twice among the entries, nor among the rules.
+ghost use mathlib.Core.Path.{_≡_};
+ghost use mathlib.Core.Bool.{true, not};
+ghost use Prim.Native.Nat.{_+_, _*_, _≤_};
+ghost use lib.Dec.{ltb};
+ghost use lib.ListN.{length};
+ghost use Rattle.rules.specs.Table.{entries, rules, rulesAt, policiesAt};
+ghost use Rattle.rules.specs.Sound.{all, sameEntryPrefix, sameRulePrefix, distinct};
+ghost use Rattle.table.specs.Keys.{entryKey};
+use crate::entry;
+use crate::records;
+use crate::rule;
+use prefix::numbers;
+
+fn same_entry_prefix(table: &[u8], i: usize, j: usize) -> bool
+    requires { ⌜ (16 + 64 * (i + 1) ≤ length (now table)) × (16 + 64 * (j + 1) ≤ length (now table)) ⌝ }
+    ensures { λ r. ⌜ r ≡ sameEntryPrefix (now (table .entry)) i j ⌝ }
+{
+    let e = records::entry_at(table, i);
+    let f = records::entry_at(table, j);
+    let p = entry::prefix_of(e);
+    let q = entry::prefix_of(f);
+    (e[entry::PREFIX_LENGTH] == f[entry::PREFIX_LENGTH])
+        & ((numbers::eight(p, 0) == numbers::eight(q, 0))
+            & (numbers::eight(p, 8) == numbers::eight(q, 8)))
+}
+
+// Entry i stands before entry j: by the prefix, then by its length.
+fn precedes(table: &[u8], i: usize, j: usize) -> bool
+    requires { ⌜ (16 + 64 * (i + 1) ≤ length (now table)) × (16 + 64 * (j + 1) ≤ length (now table)) ⌝ }
+    ensures { λ r. ⌜ r ≡ ltb (entryKey (now (table .entry)) i) (entryKey (now (table .entry)) j) ⌝ }
+{
+    let e = records::entry_at(table, i);
+    let f = records::entry_at(table, j);
+    let p = entry::prefix_of(e);
+    let q = entry::prefix_of(f);
+    let p0 = numbers::eight(p, 0);
+    let q0 = numbers::eight(q, 0);
+    let p8 = numbers::eight(p, 8);
+    let q8 = numbers::eight(q, 8);
+    let shorter = e[entry::PREFIX_LENGTH] < f[entry::PREFIX_LENGTH];
+    (p0 < q0) | ((p0 == q0) & ((p8 < q8) | ((p8 == q8) & shorter)))
+}
+
+// The first n entries stand in order, so that no prefix with its length occurs twice among them.
+fn ascending(table: &[u8], n: usize) -> bool
+    requires { ⌜ 16 + 64 * n ≤ length (now table) ⌝ }
+    ensures { λ r. ⌜ (r ≡ true → distinct (sameEntryPrefix (now (table .entry))) n ≡ true) ⌝ }
+{
+    if n == 0 {
+        return true;
+    }
+    let mut i = 1;
+    while i < n {
+        if !precedes(table, i - 1, i) {
+            return false;
+        }
+        i += 1;
+    }
+    true
+}
+
+// No entry before j has the prefix of entry j with its length.
+fn entry_fresh(table: &[u8], j: usize) -> bool
+    requires { ⌜ 16 + 64 * (j + 1) ≤ length (now table) ⌝ }
+    ensures { λ r. ⌜ r ≡ all (λ i. not (sameEntryPrefix (now (table .entry)) i j)) j ⌝ }
+{
+    let mut i = 0;
+    while i < j {
+        if same_entry_prefix(table, i, j) {
+            return false;
+        }
+        i += 1;
+    }
+    true
+}
+
+// Each pair of the first n entries is looked at.
+fn entry_pairs_apart(table: &[u8], n: usize) -> bool
+    requires { ⌜ 16 + 64 * n ≤ length (now table) ⌝ }
+    ensures { λ r. ⌜ r ≡ distinct (sameEntryPrefix (now (table .entry))) n ⌝ }
+{
+    let mut j = 0;
+    while j < n {
+        if !entry_fresh(table, j) {
+            return false;
+        }
+        j += 1;
+    }
+    true
+}
+
+// Entries that stand in order are quick.
+pub fn entries_apart(table: &[u8]) -> bool
+    requires { ⌜ rulesAt (now table) ≤ length (now table) ⌝ }
+    ensures { λ r. ⌜ r ≡ distinct (sameEntryPrefix (now (table .entry))) (entries (now (table .entry))) ⌝ }
+{
+    let n = records::entries(table);
+    if ascending(table, n) {
+        return true;
+    }
+    entry_pairs_apart(table, n)
+}
+
+fn same_rule_prefix(table: &[u8], i: usize, j: usize) -> bool
+    requires { ⌜ (rulesAt (now table) + 160 * (i + 1) ≤ length (now table)) × (rulesAt (now table) + 160 * (j + 1) ≤ length (now table)) ⌝ }
+    ensures { λ r. ⌜ r ≡ sameRulePrefix (now (table .entry)) i j ⌝ }
+{
+    let r = records::rule_at(table, i);
+    let s = records::rule_at(table, j);
+    (r[rule::PREFIX_LENGTH] == s[rule::PREFIX_LENGTH])
+        & (numbers::four(rule::prefix_of(r), 0) == numbers::four(rule::prefix_of(s), 0))
+}
+
+// No rule before j has the prefix of rule j with its length.
+fn rule_fresh(table: &[u8], j: usize) -> bool
+    requires { ⌜ rulesAt (now table) + 160 * (j + 1) ≤ length (now table) ⌝ }
+    ensures { λ r. ⌜ r ≡ all (λ i. not (sameRulePrefix (now (table .entry)) i j)) j ⌝ }
+{
+    let mut i = 0;
+    while i < j {
+        if same_rule_prefix(table, i, j) {
+            return false;
+        }
+        i += 1;
+    }
+    true
+}
+
+pub fn rules_apart(table: &[u8]) -> bool
+    requires { ⌜ policiesAt (now table) ≤ length (now table) ⌝ }
+    ensures { λ r. ⌜ r ≡ distinct (sameRulePrefix (now (table .entry))) (rules (now (table .entry))) ⌝ }
+{
+    let n = records::rules(table);
+    let mut j = 0;
+    while j < n {
+        if !rule_fresh(table, j) {
+            return false;
+        }
+        j += 1;
+    }
+    true
+}

@@ -1,0 +1,415 @@
+/*
+ * Kawsarpa: translation between GTP-U and SRv6 (RFC 9433), a packet at a time.
+ *
+ * A call is lent a packet, a table and a buffer for the packet to send, and answers with one number:
+ *
+ *     uint64_t answer = kawsarpa_call_ipv6(packet, packet_len, table, table_len, out, sizeof out);
+ *     if (kawsarpa_answer_number(answer) == KAWSARPA_ANSWER_SENT)
+ *         send_on(out, kawsarpa_answer_length(answer));
+ *
+ * The parts of this file: the calls, what they answer, the octets of a table. For x86-64.
+ */
+#ifndef KAWSARPA_H
+#define KAWSARPA_H
+
+#include <stddef.h>
+#include <stdint.h>
+
+/*
+ * THE CALLS
+ *
+ * kawsarpa_translate_ipv6 takes an IPv6 packet, looks its destination up among the table's entries and does what the longest match
+ * says: a waypoint (an SRv6 End node), D, Di, E6 or E4.
+ * kawsarpa_translate_ipv4 takes an IPv4 packet, looks its destination up among the table's rules and does H.M.GTP4.D (D4).
+ * kawsarpa_waypoint is the IPv6 call under another name: it gives the same answer and the same octets, whatever kind of entry
+ * matches. It is not confined to waypoint entries, because the list of answers has no number for "matched, but another kind".
+ *
+ * A refusal changes no octet of the output. A packet that is sent changes the first octets of the output, as many as the answer's
+ * length says, and no other octet.
+ *
+ * The caller owes this, and nothing else:
+ * - no pointer is null, and each is valid for its count (with a count of 0 any address that is not null will do);
+ * - the output overlaps neither the packet nor the table;
+ * - packet and table do not change during the call.
+ * Any octets may stand in them: what is not a packet, or not a sound table, is refused.
+ *
+ * No state is kept from call to call. Any number of threads may call at the same time, each with an output of its own, and they may
+ * share packets and tables. A new table is a new buffer, swapped in between calls.
+ */
+#ifdef __cplusplus
+extern "C" {
+#endif
+
+uint64_t kawsarpa_translate_ipv6(const uint8_t *packet, size_t packet_len, const uint8_t *table, size_t table_len,
+                                 uint8_t *out, size_t out_len);
+
+uint64_t kawsarpa_translate_ipv4(const uint8_t *packet, size_t packet_len, const uint8_t *table, size_t table_len,
+                                 uint8_t *out, size_t out_len);
+
+uint64_t kawsarpa_waypoint(const uint8_t *packet, size_t packet_len, const uint8_t *table, size_t table_len,
+                           uint8_t *out, size_t out_len);
+
+#ifdef __cplusplus
+}
+#endif
+
+/* The same calls, for a caller whose pointer may be null where the count is 0. */
+
+static inline uint64_t kawsarpa_call_ipv6(const uint8_t *packet, size_t packet_len, const uint8_t *table, size_t table_len,
+                                          uint8_t *out, size_t out_len)
+{
+    uint8_t none = 0;
+    return kawsarpa_translate_ipv6(packet_len == 0 ? &none : packet, packet_len, table_len == 0 ? &none : table, table_len,
+                                   out_len == 0 ? &none : out, out_len);
+}
+
+static inline uint64_t kawsarpa_call_ipv4(const uint8_t *packet, size_t packet_len, const uint8_t *table, size_t table_len,
+                                          uint8_t *out, size_t out_len)
+{
+    uint8_t none = 0;
+    return kawsarpa_translate_ipv4(packet_len == 0 ? &none : packet, packet_len, table_len == 0 ? &none : table, table_len,
+                                   out_len == 0 ? &none : out, out_len);
+}
+
+static inline uint64_t kawsarpa_call_waypoint(const uint8_t *packet, size_t packet_len, const uint8_t *table, size_t table_len,
+                                              uint8_t *out, size_t out_len)
+{
+    uint8_t none = 0;
+    return kawsarpa_waypoint(packet_len == 0 ? &none : packet, packet_len, table_len == 0 ? &none : table, table_len,
+                             out_len == 0 ? &none : out, out_len);
+}
+
+/*
+ * WHAT A CALL ANSWERS
+ *
+ * Number in bits 0 to 7, ICMP type in 8 to 15, ICMP code in 16 to 23, ICMP pointer in 24 to 39, length in 40 to 63.
+ */
+
+/* The smallest number that applies. */
+static inline uint8_t kawsarpa_answer_number(uint64_t answer)
+{
+    return (uint8_t)(answer & 0xFF);
+}
+
+/* What an ICMPv6 message about the packet says; 0 throughout where there is none to send. The library sends none itself. */
+static inline uint8_t kawsarpa_answer_icmp_type(uint64_t answer)
+{
+    return (uint8_t)(answer >> 8 & 0xFF);
+}
+
+static inline uint8_t kawsarpa_answer_icmp_code(uint64_t answer)
+{
+    return (uint8_t)(answer >> 16 & 0xFF);
+}
+
+static inline uint16_t kawsarpa_answer_icmp_pointer(uint64_t answer)
+{
+    return (uint16_t)(answer >> 24 & 0xFFFF);
+}
+
+/* The length of the packet in the output; 0 for a refusal. */
+static inline size_t kawsarpa_answer_length(uint64_t answer)
+{
+    return (size_t)(answer >> 40);
+}
+
+/* The answer numbers. SL is Segments Left, LE is Last Entry. */
+enum {
+    /* sent: no other number applies */
+    KAWSARPA_ANSWER_SENT = 0,
+    /* the table is not sound */
+    KAWSARPA_ANSWER_UNSOUND = 1,
+    /* shorter than 40 (IPv4: 20) octets, wrong version, or the length field disagrees with the packet lent */
+    KAWSARPA_ANSWER_MALFORMED = 2,
+    /* IPv4: header length not 5, wrong checksum, a fragment */
+    KAWSARPA_ANSWER_BAD_HEADER4 = 3,
+    /* no entry or rule matches */
+    KAWSARPA_ANSWER_NO_MATCH = 4,
+    /* next header 0, 44 or 60 in the chain, a second 43, routing type not 4, SRH cut short, or E6 without SRH */
+    KAWSARPA_ANSWER_BAD_CHAIN = 5,
+    /* waypoint, SL > 0, hop limit 0 or 1: Time Exceeded code 0 */
+    KAWSARPA_ANSWER_HOP_LIMIT = 6,
+    /* SL not 0 (D, Di, E4) or not 1 (E6); at E6 and at a waypoint with SL > 0, LE beyond the segments held; at that waypoint also
+       SL > LE + 1: Parameter Problem code 0, pointer 43 */
+    KAWSARPA_ANSWER_SEGMENTS_LEFT = 7,
+    /* D, Di: not UDP, or destination port not 2152; E6, E4: next header not the session's; waypoint: SL 0 or no SRH: Parameter
+       Problem code 4, pointer at the upper-layer header. D4: not UDP, or another port: no ICMP */
+    KAWSARPA_ANSWER_UPPER_LAYER = 8,
+    /* UDP under 8 octets, or its length disagrees */
+    KAWSARPA_ANSWER_BAD_UDP = 9,
+    /* GTP-U header cut short, not version 1 or PT 1, or length disagrees */
+    KAWSARPA_ANSWER_BAD_GTPU = 10,
+    /* GTP-U message type not 255 (G-PDU) */
+    KAWSARPA_ANSWER_NOT_G_PDU = 11,
+    /* an extension type but 0x85, a second container, unit count 0 or past the end */
+    KAWSARPA_ANSWER_BAD_EXTENSIONS = 12,
+    /* no PDU Session container, or not the entry's direction */
+    KAWSARPA_ANSWER_BAD_CONTAINER = 13,
+    /* IPv4v6 session: inner packet empty, or its first nibble not 4 or 6 */
+    KAWSARPA_ANSWER_BAD_INNER = 14,
+    /* a length field would pass 65,535 */
+    KAWSARPA_ANSWER_TOO_LONG = 15,
+    /* the output is shorter than the result */
+    KAWSARPA_ANSWER_NO_ROOM = 16
+};
+
+/* ICMPv6 types (RFC 4443): answer 6 has the first, answers 7 and 8 the second. */
+enum {
+    KAWSARPA_ICMP_TIME_EXCEEDED = 3,
+    KAWSARPA_ICMP_PARAMETER_PROBLEM = 4
+};
+
+/* A name for an answer's number (0 to 16, in their order). */
+static inline const char *kawsarpa_answer_name(unsigned int number)
+{
+    static const char *const names[] = {
+        "sent", "table not sound", "malformed packet", "bad IPv4 header", "no match", "bad header chain", "hop limit exceeded",
+        "bad segments left", "bad upper layer", "bad UDP", "bad GTP-U", "not a G-PDU", "bad extensions", "bad container",
+        "bad inner packet", "too long", "no room"
+    };
+    return number < sizeof names / sizeof names[0] ? names[number] : "unknown";
+}
+
+/*
+ * THE OCTETS OF A TABLE
+ *
+ * A header, then the entries, the rules and the policies, with nothing between or behind them. The records are made of octets, so
+ * their structs have no padding and any address suits them: a struct of one header and arrays of records is a table.
+ *
+ *     struct { struct kawsarpa_table_header header; struct kawsarpa_entry entries[2]; struct kawsarpa_policy policies[1]; } table;
+ *
+ * Numbers of more than one octet are big-endian; the setters take them as plain numbers. Addresses and prefixes are octets in the
+ * order in which they are sent, as inet_pton writes them.
+ *
+ * Spare octets, and slots past a count, are written 0 and never examined. A reserved octet is 0, else the table is not sound. A
+ * condition on a field is tested where the kind uses the field; so begin with a record of zeros and set the fields that its kind uses.
+ *
+ * A table is sound if its format is 1, its counts are within the limits, its length is the size that they give, the bits past each
+ * prefix's length are 0, no prefix with its length occurs twice among entries or among rules, and each field is as said beside it.
+ */
+
+/* The format of a table, and how many records it holds at most. */
+enum {
+    KAWSARPA_FORMAT = 1,
+    KAWSARPA_ENTRIES_MAX = 64,
+    KAWSARPA_RULES_MAX = 16,
+    KAWSARPA_POLICIES_MAX = 16,
+    /* of a rule and of a policy */
+    KAWSARPA_WAYPOINTS_MAX = 7,
+    KAWSARPA_SIDS_MAX = 8
+};
+
+/* Behaviours by their IANA numbers (RFC 8986, RFC 9433). */
+enum {
+    KAWSARPA_BEHAVIOUR_END = 1,              /* waypoint */
+    KAWSARPA_BEHAVIOUR_END_M_GTP6_D = 69,    /* D */
+    KAWSARPA_BEHAVIOUR_END_M_GTP6_D_DI = 70, /* Di */
+    KAWSARPA_BEHAVIOUR_END_M_GTP6_E = 71,    /* E6 */
+    KAWSARPA_BEHAVIOUR_END_M_GTP4_E = 72     /* E4 */
+};
+
+/* Directions, by the PDU types of the PDU Session container (TS 38.415). */
+enum {
+    KAWSARPA_DIRECTION_DOWNLINK = 0,
+    KAWSARPA_DIRECTION_UPLINK = 1
+};
+
+/* PDU session types (TS 24.501). */
+enum {
+    KAWSARPA_SESSION_IPV4 = 1,
+    KAWSARPA_SESSION_IPV6 = 2,
+    KAWSARPA_SESSION_IPV4V6 = 3,
+    KAWSARPA_SESSION_ETHERNET = 5
+};
+
+struct kawsarpa_table_header {
+    uint8_t format;      /* KAWSARPA_FORMAT */
+    uint8_t spare1;
+    uint8_t entries[2];  /* at most KAWSARPA_ENTRIES_MAX */
+    uint8_t rules[2];    /* at most KAWSARPA_RULES_MAX */
+    uint8_t policies[2]; /* at most KAWSARPA_POLICIES_MAX */
+    uint8_t spare8[8];
+};
+
+/* A SID entry. */
+struct kawsarpa_entry {
+    uint8_t behaviour;      /* KAWSARPA_BEHAVIOUR_... */
+    uint8_t prefix_length;  /* 0 to 128; E6: at most args_start; E4: at most 8p */
+    uint8_t hop_limit;      /* 1 to 255; E4: the TTL */
+    uint8_t direction;      /* D, Di, E6, E4: KAWSARPA_DIRECTION_... */
+    uint8_t session_type;   /* D, Di, E6, E4: KAWSARPA_SESSION_... */
+    uint8_t policy;         /* D, Di: a policy of this table, from 0 */
+    uint8_t args_start;     /* E6: the bit of the destination at which Args begin, 8a with a from 0 to 11 */
+    uint8_t p;              /* E4: octets of the destination before the IPv4 destination, 0 to 7 */
+    uint8_t q;              /* E4: octets of the source before the IPv4 source, 0 to 12 */
+    uint8_t reserved;
+    uint8_t source_port[2]; /* E6, E4: UDP source port of what is sent */
+    uint8_t spare12[4];
+    uint8_t prefix[16];
+    uint8_t source[16];     /* D, Di, E6: source address of what is sent */
+    uint8_t spare48[16];
+};
+
+/* An IPv4 rule. */
+struct kawsarpa_rule {
+    uint8_t prefix_length;     /* 0 to 32 */
+    uint8_t hop_limit;         /* 1 to 255 */
+    uint8_t direction;         /* KAWSARPA_DIRECTION_... */
+    uint8_t session_type;      /* KAWSARPA_SESSION_... */
+    uint8_t p;                 /* octets of sid_prefix, 0 to 7 */
+    uint8_t q;                 /* octets of source_prefix, 0 to 12 */
+    uint8_t waypoint_count;    /* 0 to KAWSARPA_WAYPOINTS_MAX */
+    uint8_t reserved;
+    uint8_t prefix[4];
+    uint8_t spare12[4];
+    uint8_t sid_prefix[16];    /* prefix of the SID that the rule builds; bits past 8p are 0 */
+    uint8_t source_prefix[16]; /* prefix of the source address that it builds; bits past 8q are 0 */
+    uint8_t waypoints[7][16];  /* in order of travel */
+};
+
+/* A policy. */
+struct kawsarpa_policy {
+    uint8_t sid_count;     /* 1 to KAWSARPA_SIDS_MAX */
+    uint8_t args_start;    /* the bit of the last SID at which Args begin, 8a with a from 0 to 11 */
+    uint8_t reserved;
+    uint8_t spare3[13];
+    uint8_t sids[8][16];   /* in order of travel */
+    uint8_t spare144[144];
+};
+
+/* Sizes and offsets, in octets. The compiler refuses any other: an array of -1 octets. */
+#define KAWSARPA_SIZE(record, size) typedef char kawsarpa_size_##record[sizeof(struct kawsarpa_##record) == (size) ? 1 : -1]
+#define KAWSARPA_AT(offset, record, field) \
+    typedef char kawsarpa_at_##record##_##field[offsetof(struct kawsarpa_##record, field) == (offset) ? 1 : -1]
+
+KAWSARPA_SIZE(table_header, 16);
+KAWSARPA_AT(0, table_header, format);
+KAWSARPA_AT(1, table_header, spare1);
+KAWSARPA_AT(2, table_header, entries);
+KAWSARPA_AT(4, table_header, rules);
+KAWSARPA_AT(6, table_header, policies);
+KAWSARPA_AT(8, table_header, spare8);
+
+KAWSARPA_SIZE(entry, 64);
+KAWSARPA_AT(0, entry, behaviour);
+KAWSARPA_AT(1, entry, prefix_length);
+KAWSARPA_AT(2, entry, hop_limit);
+KAWSARPA_AT(3, entry, direction);
+KAWSARPA_AT(4, entry, session_type);
+KAWSARPA_AT(5, entry, policy);
+KAWSARPA_AT(6, entry, args_start);
+KAWSARPA_AT(7, entry, p);
+KAWSARPA_AT(8, entry, q);
+KAWSARPA_AT(9, entry, reserved);
+KAWSARPA_AT(10, entry, source_port);
+KAWSARPA_AT(12, entry, spare12);
+KAWSARPA_AT(16, entry, prefix);
+KAWSARPA_AT(32, entry, source);
+KAWSARPA_AT(48, entry, spare48);
+
+KAWSARPA_SIZE(rule, 160);
+KAWSARPA_AT(0, rule, prefix_length);
+KAWSARPA_AT(1, rule, hop_limit);
+KAWSARPA_AT(2, rule, direction);
+KAWSARPA_AT(3, rule, session_type);
+KAWSARPA_AT(4, rule, p);
+KAWSARPA_AT(5, rule, q);
+KAWSARPA_AT(6, rule, waypoint_count);
+KAWSARPA_AT(7, rule, reserved);
+KAWSARPA_AT(8, rule, prefix);
+KAWSARPA_AT(12, rule, spare12);
+KAWSARPA_AT(16, rule, sid_prefix);
+KAWSARPA_AT(32, rule, source_prefix);
+KAWSARPA_AT(48, rule, waypoints);
+
+KAWSARPA_SIZE(policy, 288);
+KAWSARPA_AT(0, policy, sid_count);
+KAWSARPA_AT(1, policy, args_start);
+KAWSARPA_AT(2, policy, reserved);
+KAWSARPA_AT(3, policy, spare3);
+KAWSARPA_AT(16, policy, sids);
+KAWSARPA_AT(144, policy, spare144);
+
+#undef KAWSARPA_SIZE
+#undef KAWSARPA_AT
+
+/*
+ * The octets that a table with these counts has. It is also where records stand: entry i at kawsarpa_table_size(i, 0, 0), rule k at
+ * kawsarpa_table_size(entries, k, 0), policy j at kawsarpa_table_size(entries, rules, j).
+ */
+static inline size_t kawsarpa_table_size(uint16_t entries, uint16_t rules, uint16_t policies)
+{
+    return sizeof(struct kawsarpa_table_header) + sizeof(struct kawsarpa_entry) * entries +
+           sizeof(struct kawsarpa_rule) * rules + sizeof(struct kawsarpa_policy) * policies;
+}
+
+/* Big-endian numbers. */
+
+static inline void kawsarpa_put16(uint8_t *octets, uint16_t number)
+{
+    octets[0] = (uint8_t)(number >> 8);
+    octets[1] = (uint8_t)(number & 0xFF);
+}
+
+static inline void kawsarpa_put32(uint8_t *octets, uint32_t number)
+{
+    kawsarpa_put16(octets, (uint16_t)(number >> 16));
+    kawsarpa_put16(octets + 2, (uint16_t)(number & 0xFFFF));
+}
+
+/* Writes the whole header: the format, the counts, and 0 into the spare octets. */
+static inline void kawsarpa_table_header_set(struct kawsarpa_table_header *header, uint16_t entries, uint16_t rules,
+                                             uint16_t policies)
+{
+    size_t i;
+    header->format = KAWSARPA_FORMAT;
+    header->spare1 = 0;
+    kawsarpa_put16(header->entries, entries);
+    kawsarpa_put16(header->rules, rules);
+    kawsarpa_put16(header->policies, policies);
+    for (i = 0; i < sizeof header->spare8; i++)
+        header->spare8[i] = 0;
+}
+
+static inline void kawsarpa_entry_set_source_port(struct kawsarpa_entry *entry, uint16_t port)
+{
+    kawsarpa_put16(entry->source_port, port);
+}
+
+/* 192.0.2.0 is 0xC0000200. */
+static inline void kawsarpa_rule_set_prefix(struct kawsarpa_rule *rule, uint32_t prefix)
+{
+    kawsarpa_put32(rule->prefix, prefix);
+}
+
+/*
+ * The start of Args, given in bits or, as a, in octets. The field holds bits; a start that it cannot hold is written as 255, with
+ * which no E6 entry and no policy is sound.
+ */
+
+static inline void kawsarpa_put_args_start(uint8_t *args_start, unsigned int bits)
+{
+    *args_start = (uint8_t)(bits < 255 ? bits : 255);
+}
+
+static inline void kawsarpa_entry_set_args_start_bits(struct kawsarpa_entry *entry, unsigned int bits)
+{
+    kawsarpa_put_args_start(&entry->args_start, bits);
+}
+
+static inline void kawsarpa_entry_set_args_start_octets(struct kawsarpa_entry *entry, uint8_t a)
+{
+    kawsarpa_put_args_start(&entry->args_start, 8u * a);
+}
+
+static inline void kawsarpa_policy_set_args_start_bits(struct kawsarpa_policy *policy, unsigned int bits)
+{
+    kawsarpa_put_args_start(&policy->args_start, bits);
+}
+
+static inline void kawsarpa_policy_set_args_start_octets(struct kawsarpa_policy *policy, uint8_t a)
+{
+    kawsarpa_put_args_start(&policy->args_start, 8u * a);
+}
+
+#endif
