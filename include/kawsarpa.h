@@ -7,7 +7,7 @@
  *     if (kawsarpa_answer_number(answer) == KAWSARPA_ANSWER_SENT)
  *         send_on(out, kawsarpa_answer_length(answer));
  *
- * The parts of this file: the calls, what they answer, the octets of a table. For x86-64.
+ * The parts of this file: the calls, what they answer, the octets of a table. The library is for x86-64.
  */
 #ifndef KAWSARPA_H
 #define KAWSARPA_H
@@ -159,7 +159,7 @@ enum {
     KAWSARPA_ICMP_PARAMETER_PROBLEM = 4
 };
 
-/* A name for an answer's number (0 to 16, in their order). */
+/* A short name for an answer number; "unknown" for a number that is not in the list. */
 static inline const char *kawsarpa_answer_name(unsigned int number)
 {
     static const char *const names[] = {
@@ -182,7 +182,7 @@ static inline const char *kawsarpa_answer_name(unsigned int number)
  * order in which they are sent, as inet_pton writes them.
  *
  * Spare octets, and slots past a count, are written 0 and never examined. A reserved octet is 0, else the table is not sound. A
- * condition on a field is tested where the kind uses the field; so begin with a record of zeros and set the fields that its kind uses.
+ * condition on a field is tested where the kind uses the field; so begin with a record of zeros and set the fields that are used.
  *
  * A table is sound if its format is 1, its counts are within the limits, its length is the size that they give, the bits past each
  * prefix's length are 0, no prefix with its length occurs twice among entries or among rules, and each field is as said beside it.
@@ -284,11 +284,9 @@ struct kawsarpa_policy {
 
 KAWSARPA_SIZE(table_header, 16);
 KAWSARPA_AT(0, table_header, format);
-KAWSARPA_AT(1, table_header, spare1);
 KAWSARPA_AT(2, table_header, entries);
 KAWSARPA_AT(4, table_header, rules);
 KAWSARPA_AT(6, table_header, policies);
-KAWSARPA_AT(8, table_header, spare8);
 
 KAWSARPA_SIZE(entry, 64);
 KAWSARPA_AT(0, entry, behaviour);
@@ -302,10 +300,8 @@ KAWSARPA_AT(7, entry, p);
 KAWSARPA_AT(8, entry, q);
 KAWSARPA_AT(9, entry, reserved);
 KAWSARPA_AT(10, entry, source_port);
-KAWSARPA_AT(12, entry, spare12);
 KAWSARPA_AT(16, entry, prefix);
 KAWSARPA_AT(32, entry, source);
-KAWSARPA_AT(48, entry, spare48);
 
 KAWSARPA_SIZE(rule, 160);
 KAWSARPA_AT(0, rule, prefix_length);
@@ -317,7 +313,6 @@ KAWSARPA_AT(5, rule, q);
 KAWSARPA_AT(6, rule, waypoint_count);
 KAWSARPA_AT(7, rule, reserved);
 KAWSARPA_AT(8, rule, prefix);
-KAWSARPA_AT(12, rule, spare12);
 KAWSARPA_AT(16, rule, sid_prefix);
 KAWSARPA_AT(32, rule, source_prefix);
 KAWSARPA_AT(48, rule, waypoints);
@@ -326,9 +321,7 @@ KAWSARPA_SIZE(policy, 288);
 KAWSARPA_AT(0, policy, sid_count);
 KAWSARPA_AT(1, policy, args_start);
 KAWSARPA_AT(2, policy, reserved);
-KAWSARPA_AT(3, policy, spare3);
 KAWSARPA_AT(16, policy, sids);
-KAWSARPA_AT(144, policy, spare144);
 
 #undef KAWSARPA_SIZE
 #undef KAWSARPA_AT
@@ -343,18 +336,11 @@ static inline size_t kawsarpa_table_size(uint16_t entries, uint16_t rules, uint1
            sizeof(struct kawsarpa_rule) * rules + sizeof(struct kawsarpa_policy) * policies;
 }
 
-/* Big-endian numbers. */
-
+/* Writes a number into two octets, big-endian. */
 static inline void kawsarpa_put16(uint8_t *octets, uint16_t number)
 {
     octets[0] = (uint8_t)(number >> 8);
     octets[1] = (uint8_t)(number & 0xFF);
-}
-
-static inline void kawsarpa_put32(uint8_t *octets, uint32_t number)
-{
-    kawsarpa_put16(octets, (uint16_t)(number >> 16));
-    kawsarpa_put16(octets + 2, (uint16_t)(number & 0xFFFF));
 }
 
 /* Writes the whole header: the format, the counts, and 0 into the spare octets. */
@@ -376,10 +362,11 @@ static inline void kawsarpa_entry_set_source_port(struct kawsarpa_entry *entry, 
     kawsarpa_put16(entry->source_port, port);
 }
 
-/* 192.0.2.0 is 0xC0000200. */
+/* The IPv4 prefix as a number: 192.0.2.0 is 0xC0000200. */
 static inline void kawsarpa_rule_set_prefix(struct kawsarpa_rule *rule, uint32_t prefix)
 {
-    kawsarpa_put32(rule->prefix, prefix);
+    kawsarpa_put16(rule->prefix, (uint16_t)(prefix >> 16));
+    kawsarpa_put16(rule->prefix + 2, (uint16_t)(prefix & 0xFFFF));
 }
 
 /*
@@ -397,9 +384,9 @@ static inline void kawsarpa_entry_set_args_start_bits(struct kawsarpa_entry *ent
     kawsarpa_put_args_start(&entry->args_start, bits);
 }
 
-static inline void kawsarpa_entry_set_args_start_octets(struct kawsarpa_entry *entry, uint8_t a)
+static inline void kawsarpa_entry_set_args_start_octets(struct kawsarpa_entry *entry, unsigned int a)
 {
-    kawsarpa_put_args_start(&entry->args_start, 8u * a);
+    kawsarpa_put_args_start(&entry->args_start, a < 32 ? 8 * a : 255);
 }
 
 static inline void kawsarpa_policy_set_args_start_bits(struct kawsarpa_policy *policy, unsigned int bits)
@@ -407,9 +394,9 @@ static inline void kawsarpa_policy_set_args_start_bits(struct kawsarpa_policy *p
     kawsarpa_put_args_start(&policy->args_start, bits);
 }
 
-static inline void kawsarpa_policy_set_args_start_octets(struct kawsarpa_policy *policy, uint8_t a)
+static inline void kawsarpa_policy_set_args_start_octets(struct kawsarpa_policy *policy, unsigned int a)
 {
-    kawsarpa_put_args_start(&policy->args_start, 8u * a);
+    kawsarpa_put_args_start(&policy->args_start, a < 32 ? 8 * a : 255);
 }
 
 #endif

@@ -4,3 +4,4 @@ pub mod Tunnels
 pub mod Paths
 pub mod Nears
 pub mod Rules4
+pub mod Matches

@@ -9,3 +9,7 @@ mod di;
 mod e6;
 mod e4;
 mod d4;
+mod calls;
+
+pub use calls::translate_ipv4;
+pub use calls::translate_ipv6;
