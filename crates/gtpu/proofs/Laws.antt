@@ -41,11 +41,11 @@ datagram-read p f at n place t hf hn hp ht =
 abbrev argsOf : List ℕ → Args
 argsOf u = record { qfi = Gtpu.qfi u; reflective = Gtpu.reflective u; teid = Gtpu.teid u }
 
-pub args-read : (p f : List ℕ) (at kind : ℕ) (teid : List ℕ) → f ≡ window p at 24 → kind ≡ Gtpu.pduType f → teid ≡ Gtpu.teid f
-    → _≡_ {A = Args} (record { qfi = Gtpu.qfi f; reflective = cond (eqb kind downlink) (Gtpu.reflectiveBit f) 0; teid = teid }) (argsOf (drop at p))
+pub args-read : (p f : List ℕ) (at direction : ℕ) (teid : List ℕ) → f ≡ window p at 24 → direction ≡ Gtpu.pduType f → teid ≡ Gtpu.teid f
+    → _≡_ {A = Args} (record { qfi = Gtpu.qfi f; reflective = cond (eqb direction downlink) (Gtpu.reflectiveBit f) 0; teid = teid }) (argsOf (drop at p))
 unfolding window
-args-read p f at kind teid hf hk ht =
-    (λ i. record { qfi = Gtpu.qfi f; reflective = cond (eqb (hk i) downlink) (Gtpu.reflectiveBit f) 0; teid = ht i }) ∙ ap argsOf (hf ∙ window-at p at 24)
+args-read p f at direction teid hf hd ht =
+    (λ i. record { qfi = Gtpu.qfi f; reflective = cond (eqb (hd i) downlink) (Gtpu.reflectiveBit f) 0; teid = ht i }) ∙ ap argsOf (hf ∙ window-at p at 24)
 
 -- JUDGING
 

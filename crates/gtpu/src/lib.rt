@@ -1,4 +1,4 @@
-// UDP (RFC 768), GTP-U (TS 29.281) and the PDU Session container (TS 38.415): what is read of a datagram, the tests of rows 8 to 14, and how a G-PDU is written.
+// UDP (RFC 768), GTP-U (TS 29.281) and the PDU Session container (TS 38.415): what is read of a datagram, the tests of rows 8 to 15, and how a G-PDU is written.
 ghost use mathlib.Core.Path.{_≡_};
 ghost use mathlib.Core.List.{[], _∷_};
 ghost use Prim.Native.Nat.{ℕ, _+_, _*_, _/_, _≤_, _<_};
@@ -18,7 +18,7 @@ const UDP_SIZE: usize = 8;
 
 const GTPU_PORT: u16 = 2152;
 
-// GTP-U (TS 29.281, 5.1 and 5.2.1), places from the start of the UDP header on. The message length counts from MESSAGE_AT on.
+// Places in a datagram, its UDP header included (TS 29.281, 5.1 and 5.2.1); the message length counts from MESSAGE_AT on.
 const TEID_AT: usize = 12;
 
 const MESSAGE_AT: usize = 16;
@@ -29,7 +29,7 @@ const G_PDU: u8 = 255;
 
 const PDU_SESSION_CONTAINER: u8 = 0x85;
 
-// What is written: version 1, PT and E; a container of one unit.
+// What is written: version 1, PT and E, and a container of one unit (house).
 const FLAGS: u8 = 0x20 + 0x10 + 0x04;
 
 const UNITS: u8 = 1;
@@ -47,14 +47,14 @@ fn teid_of(front: [u8; 24]) -> [u8; 4]
     ]
 }
 
-// Its PDU type is the high half of the first content octet (TS 38.415, 5.5.2).
+// The PDU type is the high half of the first content octet of a container (TS 38.415, 5.5.2).
 fn pdu_type(content: u8) -> u8
     ensures { λ r. ⌜ r ≡ content / 16 ⌝ }
 {
     content / 16
 }
 
-// Where the first extension ends: its length is in units of four octets.
+// Where the first extension ends: its length is in units of four octets (TS 29.281, 5.2.1).
 fn extension_end(units: u8) -> usize
     ensures { λ r. ⌜ (r ≡ 20 + 4 * units) × (r < 1041) ⌝ }
 {
@@ -113,7 +113,7 @@ fn bad_udp(g: rules::Datagram) -> bool
     (g.size < UDP_SIZE) | ((g.length as usize != g.size) | false)
 }
 
-// Row 10: version 1 and PT are the high four bits; E, S and PN, the low three, stand for four octets more.
+// Row 10: version 1 and PT are the high four bits; with any of E, S and PN, the low three, four octets more are there.
 fn bad_gtpu(g: rules::Datagram) -> bool
     ensures { λ r. ⌜ r ≡ any (badGtpu g) ⌝ }
 {
@@ -227,8 +227,8 @@ pub fn args_at(packet: &[u8], at: usize) -> args::Args
     ensures { λ r. ⌜ value r ≡ record { qfi = Gtpu.qfi (drop at (now (packet .entry))); reflective = Gtpu.reflective (drop at (now (packet .entry))); teid = Gtpu.teid (drop at (now (packet .entry))) } ⌝ }
 {
     let front = octets::window24(packet, at);
-    let kind = pdu_type(front[EXTENSION_AT + 1]);
-    args::Args::from_container(kind, front[EXTENSION_AT + 2], teid_of(front))
+    let direction = pdu_type(front[EXTENSION_AT + 1]);
+    args::Args::from_container(direction, front[EXTENSION_AT + 2], teid_of(front))
 }
 
 // Where the inner packet begins in the datagram.

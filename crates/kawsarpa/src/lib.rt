@@ -1,0 +1,33 @@
+// The functions that C calls (include/kawsarpa.h). What each answers and leaves in the output is said for every packet, every table
+// and every length of the output.
+ghost use mathlib.Core.Path.{_≡_};
+ghost use lib.ListN.{length};
+ghost use Rattle.rules.specs.Answer.{packed, overlay};
+ghost use Rattle.rules.specs.Calls.{translate6, translate4};
+
+// The IPv6 call.
+#[no_mangle]
+pub extern "C" fn kawsarpa_translate_ipv6(packet: &[u8], table: &[u8], out: &mut [u8]) -> u64
+    ensures { λ r. ⌜ (r ≡ packed (translate6 (now (packet .entry)) (now (table .entry)) (length (now (out .entry)))))
+        × (now (out .exit) ≡ overlay (translate6 (now (packet .entry)) (now (table .entry)) (length (now (out .entry)))) (now (out .entry))) ⌝ }
+{
+    gateway::translate_ipv6(packet, table, out).pack()
+}
+
+// The IPv4 call.
+#[no_mangle]
+pub extern "C" fn kawsarpa_translate_ipv4(packet: &[u8], table: &[u8], out: &mut [u8]) -> u64
+    ensures { λ r. ⌜ (r ≡ packed (translate4 (now (packet .entry)) (now (table .entry)) (length (now (out .entry)))))
+        × (now (out .exit) ≡ overlay (translate4 (now (packet .entry)) (now (table .entry)) (length (now (out .entry)))) (now (out .entry))) ⌝ }
+{
+    gateway::translate_ipv4(packet, table, out).pack()
+}
+
+// The IPv6 call, for a box that is only a waypoint.
+#[no_mangle]
+pub extern "C" fn kawsarpa_waypoint(packet: &[u8], table: &[u8], out: &mut [u8]) -> u64
+    ensures { λ r. ⌜ (r ≡ packed (translate6 (now (packet .entry)) (now (table .entry)) (length (now (out .entry)))))
+        × (now (out .exit) ≡ overlay (translate6 (now (packet .entry)) (now (table .entry)) (length (now (out .entry)))) (now (out .entry))) ⌝ }
+{
+    gateway::translate_ipv6(packet, table, out).pack()
+}
