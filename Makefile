@@ -1,7 +1,7 @@
 # Kawsarpa. `make` proves every crate; `make test` is the gate.
 
 .DELETE_ON_ERROR:
-.PHONY: all prove test toolchain format clean
+.PHONY: all prove test toolchain tools format second library clean
 
 all: prove
 
@@ -9,8 +9,8 @@ all: prove
 prove: toolchain
 	rt check
 
-# Everything, from nothing. The last command is `rt ci`, whose last line says what passed.
-test: toolchain format
+# Everything. The last command is `rt ci`, which proves all from nothing, tries the must-fail edits and says last what passed.
+test: toolchain tools format second library
 	rt ci
 
 # the proofs were checked with the toolchain that the file names
@@ -20,8 +20,29 @@ toolchain:
 	  echo "toolchain: expected '$$(cat rt.version)', found '$$found'" >&2; exit 1; \
 	fi
 
+# what the tests beside the proofs need: Debian's packages, where one is missing
+tools:
+	@missing=; \
+	for pair in gcc:gcc g++:g++ nm:binutils cargo:cargo; do \
+	  command -v "$${pair%%:*}" >/dev/null || missing="$$missing $${pair#*:}"; \
+	done; \
+	if [ -n "$$missing" ]; then \
+	  echo "installing$$missing"; apt-get update -qq && apt-get install -y -qq $$missing; \
+	fi
+
 format:
 	rt fmt --check
 
+# the second program: its own tests, and the worked packets of document 01
+second:
+	cd tests/second && cargo test --release --offline --quiet && cargo run --release --offline --quiet -- worked
+
+# the header, the exported functions called from C, and the program
+library:
+	rt staticlib kawsarpa
+	rt check empty_table
+	tests/c/run.sh target/staticlib/libkawsarpa.a
+	tests/program/run.sh target/bin/empty_table
+
 clean:
-	rm -rf target
+	rm -rf target tests/second/target

@@ -3,7 +3,7 @@ ghost use mathlib.Core.Path.{_≡_};
 ghost use mathlib.Core.List.{[]};
 ghost use Prim.Native.Nat.{ℕ, _+_, _-_, _*_, _≤_, _<_};
 ghost use lib.ListN.{length};
-ghost use Rattle.rules.proofs.Judging.{first};
+ghost use Rattle.rules.specs.Answer.{first};
 ghost use Rattle.octets.specs.Run.{Run};
 ghost use Rattle.gateway.specs.Heads.{pathFront};
 

@@ -29,5 +29,5 @@ pub extern "C" fn kawsarpa_waypoint(packet: &[u8], table: &[u8], out: &mut [u8])
     ensures { λ r. ⌜ (r ≡ packed (translate6 (now (packet .entry)) (now (table .entry)) (length (now (out .entry)))))
         × (now (out .exit) ≡ overlay (translate6 (now (packet .entry)) (now (table .entry)) (length (now (out .entry)))) (now (out .entry))) ⌝ }
 {
-    gateway::translate_ipv6(packet, table, out).pack()
+    kawsarpa_translate_ipv6(packet, table, out)
 }

@@ -72,7 +72,7 @@ module _ (t : List ℕ) (room : ℕ) (x : List ℕ) (h : Header) where
   unfolding gtp4Rows messageRows gPduRows innerRows
   d4-refusals h g r direction inner = refl
 
-  -- the numbers of each ascend from 4 on, over IPv4 from 4 on too
+  -- the numbers of each ascend from 4 on, at D4 too
   pub ascending : (g : Datagram) (h4 : Header4) (e r : List ℕ) (path : List (List ℕ)) (direction size : ℕ) (inner : List ℕ)
       → T (below 4 (refusals (waypointRows h ++ roomRow room x ∷ []))
       && (below 4 (refusals (gtp6Rows h g ++ (messageRows g ++ (gPduRows direction g ++ (gtp6DRows e path inner ++ roomRow room x ∷ [])))))

@@ -4,7 +4,7 @@ use mathlib.Core.Bool.{Bool, true, false, not, cond, _&&_, _||_}
 use mathlib.Core.List.{List, [], _∷_, _++_}
 use Prim.Native.Nat.{ℕ}
 use native.Mathlib.Omega.{arith}
-use Rattle.rules.specs.Answer.{Row, given, any, verdict, Outcome, Sent, Refused, after, unless}
+use Rattle.rules.specs.Answer.{Row, given, any, verdict, Outcome, Sent, Refused, after, unless, first}
 use Rattle.rules.specs.declared.Refusal.{Refusal}
 use Rattle.rules.specs.declared.Verdict.{Verdict}
 use Rattle.rules.specs.declared.Verdict.the-variants.{Pass, Refuse}
@@ -44,11 +44,6 @@ any-given true bs = refl
 any-given false bs = refl
 
 -- ROWS ONE AFTER THE OTHER
-
--- the first of two verdicts that refuses
-abbrev pub first : Verdict → Verdict → Verdict
-first Pass w = w
-first (Refuse ρ) w = Refuse ρ
 
 pub verdict-append : (xs ys : List Row) → verdict (xs ++ ys) ≡ first (verdict xs) (verdict ys)
 unfolding verdict

@@ -31,4 +31,5 @@ pub mod Splices
 pub mod Fields
 pub mod PathFields
 pub mod D4Fields
+pub mod SentFields
 pub mod Judging

@@ -48,7 +48,7 @@ join-more : (o : Outcome) (b : List ℕ) (bs : List (List ℕ)) (ss : List Stop)
 join-more (Sent x) b bs ss rest t e = ap (λ (t : Trip). record { outcome = t .outcome; buffers = b ∷ t .buffers }) e
 join-more (Refused r) b bs ss rest t e = ap (λ (t : Trip). record { outcome = t .outcome; buffers = b ∷ t .buffers }) e
 
--- joined lists of stops are passed one after the other; a refusal in the first is the refusal of the whole (order 9)
+-- joined lists of stops are passed one after the other; a refusal in the first is the refusal of the whole
 pub trip-append : (xs ys : List Stop) (p : List ℕ) → trip (xs ++ ys) p ≡ join (trip xs p .outcome) (trip xs p .buffers) ys (λ o. trip ys o)
 unfolding trip
 trip-append [] ys p = refl

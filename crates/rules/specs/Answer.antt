@@ -65,6 +65,11 @@ unfoldable pub verdict : List Row → Verdict
 verdict [] = Pass
 verdict (r ∷ rs) = cond (any (r .tests)) (Refuse (r .refusal)) (verdict rs)
 
+-- the first of two verdicts that refuses
+abbrev pub first : Verdict → Verdict → Verdict
+first Pass w = w
+first (Refuse r) w = Refuse r
+
 -- WHAT COMES OF A CALL
 
 pub data Outcome : Type 0 where

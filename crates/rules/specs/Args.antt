@@ -1,5 +1,5 @@
 -- Args.Mob.Session (RFC 9433, 6.1), 40 bits: QFI 6, R 1, U 1, PDU Session ID 32, which here is the TEID.
--- Everything above uses it through `argsAt` and `withArgs`, so that a start at any bit (order 7) changes these two alone.
+-- Everything above uses it through `argsAt` and `withArgs`, so that a start at any bit changes these two alone.
 use mathlib.Core.List.{List, _∷_, _++_}
 use Prim.Native.Nat.{ℕ, _+_, _*_, _/_, _%_}
 use lib.ListN.{take, drop}

@@ -37,7 +37,7 @@ header4 p = header4Of p (length p)
 abbrev pub malformed4 : Header4 → List Bool
 malformed4 h = ltb (h .size) 20 ∷ differs (h .version) 4 ∷ differs (h .totalLength) (h .size) ∷ []
 
--- row 3: header length not 5, wrong checksum, a fragment
+-- row 3: header length not 5, wrong checksum, a fragment; for options and fragments stricter than the standard (house)
 abbrev pub badHeader4 : Header4 → List Bool
 badHeader4 h =
     differs (h .headerLength) 5

@@ -1,4 +1,4 @@
--- What is asked of a UDP datagram at D, Di and D4: rows 8 to 14.
+-- What is asked of a UDP datagram at D, Di and D4: rows 8 to 15.
 use mathlib.Core.Bool.{Bool, not, _&&_, cond}
 use mathlib.Core.List.{List, [], _∷_}
 use Prim.Native.Nat.{ℕ, _+_, _*_, _/_, _%_}
@@ -49,7 +49,7 @@ badGtpu g =
 abbrev pub extended : Datagram → Bool
 extended g = eqb (g .flags / 4 % 2) 1 && ltb 0 (g .extensionType)
 
--- row 12: an extension type but 0x85, a second container, unit count 0 or past the end. Whatever type follows a container is either
+-- row 12 (house): an extension type but 0x85, a second container, unit count 0 or past the end. Whatever type follows a container is either
 -- another type or a second container, so that 0 must follow it.
 abbrev pub badExtensions : Datagram → List Bool
 badExtensions g =
@@ -60,7 +60,7 @@ badExtensions g =
     ∷ differs (g .followingType) 0
     ∷ [])
 
--- row 13: no container, or not the entry's direction
+-- row 13 (house): no container, or not the entry's direction
 abbrev pub badContainer : (direction : ℕ) → Datagram → List Bool
 badContainer direction g = not (extended g) ∷ differs (g .pduType) direction ∷ []
 

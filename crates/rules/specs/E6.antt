@@ -33,7 +33,7 @@ e6Packet e c =
     Ipv6.ipv6 (c .trafficClass) (e6Payload (c .inner)) udpProtocol (Entry.hopLimit e) (Entry.source e) (c .destination)
     (datagramOctets (Entry.sourcePort e) (Entry.direction e) (c .args) (c .inner))
 
--- rows 5, 7 and 8
+-- rows 5, 7 and 8; row 7 also tests LE (house)
 unfoldable pub e6Rows : (e : List ℕ) → Header → List Row
 e6Rows e h =
     row (not (hasSrh h) ∷ badChain h) 5

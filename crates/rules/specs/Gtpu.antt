@@ -105,7 +105,7 @@ innerOf u = drop (extensionAt + 4 * extensionUnits u) u
 
 -- WHAT IS WRITTEN
 
--- the checksum is an argument, 0 in the base (order 2)
+-- the checksum is an argument; what we write has 0 (house)
 abbrev pub udp : (sourcePort size checksum : ℕ) (rest : List ℕ) → List ℕ
 udp sourcePort size checksum rest = put16 sourcePort (put16 gtpuPort (put16 size (put16 checksum rest)))
 

@@ -39,7 +39,7 @@ malformed h = ltb (h .size) 40 ∷ differs (h .version) 6 ∷ differs (40 + h .p
 abbrev pub hasSrh : Header → Bool
 hasSrh h = eqb (h .nextHeader) routingHeader
 
--- row 5: next header 0, 44 or 60 in the chain, a second 43, routing type not 4, or SRH cut short: fewer octets left than 8, or than
+-- row 5 (house): next header 0, 44 or 60 in the chain, a second 43, routing type not 4, or SRH cut short: fewer octets left than 8, or than
 -- its length field says
 abbrev pub badSrh : Header → List Bool
 badSrh h =

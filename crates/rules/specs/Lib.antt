@@ -30,3 +30,4 @@ pub mod Calls
 pub mod Trip
 pub mod Demand3
 pub mod Written
+pub mod Sent

@@ -31,7 +31,7 @@ whereUsed used condition = not used || condition
 abbrev pub formatKnown : List ℕ → Bool
 formatKnown t = eqb (format t) 1
 
--- at most 64 SID entries, 16 IPv4 rules, 16 policies; the limit of entries is an argument (order 5)
+-- at most 64 SID entries, 16 IPv4 rules, 16 policies; the limit of entries is an argument
 abbrev pub entryLimit : ℕ
 entryLimit = 64
 
