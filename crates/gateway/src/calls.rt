@@ -33,7 +33,14 @@ const END_M_GTP6_D_DI: u8 = 70;
 const END_M_GTP6_E: u8 = 71;
 
 // The packet at entry i, which matches.
-fn at_entry(table: &[u8], i: usize, h: rules::Header, front: [u8; 48], packet: &[u8], out: &mut [u8]) -> Answer
+fn at_entry(
+    table: &[u8],
+    i: usize,
+    h: rules::Header,
+    front: [u8; 48],
+    packet: &[u8],
+    out: &mut [u8],
+) -> Answer
     requires { ⌜ (sound (now table) ≡ true) × (matchEntry (now table) (Ipv6.destination (now packet)) ≡ At i) × Sight (now packet) h × (front ≡ window (now packet) 0 48) ⌝ }
     ensures { λ a. ⌜ Answered (settle (length (now (out .entry))) (atEntry (now (table .entry)) (entryAt (now (table .entry)) i) (now (packet .entry)))) (now (out .entry)) a (now (out .exit)) ⌝ }
 {
@@ -57,7 +64,13 @@ fn at_entry(table: &[u8], i: usize, h: rules::Header, front: [u8; 48], packet: &
 }
 
 // The longest match of the destination, then the entry found.
-fn at_match(table: &[u8], h: rules::Header, front: [u8; 48], packet: &[u8], out: &mut [u8]) -> Answer
+fn at_match(
+    table: &[u8],
+    h: rules::Header,
+    front: [u8; 48],
+    packet: &[u8],
+    out: &mut [u8],
+) -> Answer
     requires { ⌜ (sound (now table) ≡ true) × Sight (now packet) h × (front ≡ window (now packet) 0 48) ⌝ }
     ensures { λ a. ⌜ Answered (settle (length (now (out .entry))) (atFoundEntry (now (table .entry)) (now (packet .entry)) (matchEntry (now (table .entry)) (Ipv6.destination (now (packet .entry)))))) (now (out .entry)) a (now (out .exit)) ⌝ }
 {

@@ -42,7 +42,14 @@ fn judge_tunnel(h: rules::Header4, g: rules::Datagram) -> rules::Verdict
 }
 
 // Rows 8 to 15.
-fn judge(r: &[u8], h: rules::Header4, g: rules::Datagram, size: usize, first: u8, field: usize) -> rules::Verdict
+fn judge(
+    r: &[u8],
+    h: rules::Header4,
+    g: rules::Datagram,
+    size: usize,
+    first: u8,
+    field: usize,
+) -> rules::Verdict
     requires { ⌜ length (now r) ≡ 160 ⌝ }
     ensures { λ v. ⌜ v ≡ verdict (gtp4Rows h g ++ (messageRows g ++ (gPduRows (Rule.direction (now (r .entry))) g ++ innerRows (Rule.session (now (r .entry))) size first field))) ⌝ }
 {
@@ -50,7 +57,7 @@ fn judge(r: &[u8], h: rules::Header4, g: rules::Datagram, size: usize, first: u8
     let pdu = path::first_of(gtpu::judge_gpdu(r[2], g), inner);
     path::first_of(
         judge_tunnel(h, g),
-        path::first_of(gtpu::judge_message(g), pdu)
+        path::first_of(gtpu::judge_message(g), pdu),
     )
 }
 
@@ -85,7 +92,16 @@ fn payload(w: usize, size: usize) -> usize
 }
 
 // The headers before the inner packet, past w waypoints.
-fn put_past(r: &[u8], w: usize, class: u8, upper: u8, source: [u8; 16], sid: [u8; 16], size: usize, out: &mut [u8])
+fn put_past(
+    r: &[u8],
+    w: usize,
+    class: u8,
+    upper: u8,
+    source: [u8; 16],
+    sid: [u8; 16],
+    size: usize,
+    out: &mut [u8],
+)
     requires { ⌜ (length (now r) ≡ 160) × (1 ≤ w) × (w ≤ 7) × (24 + 16 * w + size < 65536) × (64 + 16 * w ≤ length (now out)) ⌝ }
     ensures { λ _. ⌜ Run (now (out .entry)) 0 (64 + 16 * w) (pathHead class upper (Rule.hopLimit (now (r .entry))) source (getD (addressesAt (now (r .entry)) 48 w ++ sid ∷ []) 0 []) (w + 1) size (sid ∷ []) (addressesAt (now (r .entry)) 48 w)) (now (out .exit)) ⌝ }
 {
@@ -96,7 +112,17 @@ fn put_past(r: &[u8], w: usize, class: u8, upper: u8, source: [u8; 16], sid: [u8
 }
 
 // Row 16, then the packet past w waypoints.
-fn send_past(r: &[u8], w: usize, class: u8, upper: u8, source: [u8; 16], sid: [u8; 16], packet: &[u8], place: usize, out: &mut [u8]) -> Answer
+fn send_past(
+    r: &[u8],
+    w: usize,
+    class: u8,
+    upper: u8,
+    source: [u8; 16],
+    sid: [u8; 16],
+    packet: &[u8],
+    place: usize,
+    out: &mut [u8],
+) -> Answer
     requires { ⌜ (length (now r) ≡ 160) × (1 ≤ w) × (w ≤ 7) × (24 + 16 * w + (length (now packet) - place) < 65536) × (place ≤ length (now packet)) ⌝ }
     ensures { λ a. ⌜ Answered (settle (length (now (out .entry))) (Sent (srv6 class upper (Rule.hopLimit (now (r .entry))) source (addressesAt (now (r .entry)) 48 w ++ sid ∷ []) (drop place (now (packet .entry)))))) (now (out .entry)) a (now (out .exit)) ⌝ }
 {
@@ -110,7 +136,16 @@ fn send_past(r: &[u8], w: usize, class: u8, upper: u8, source: [u8; 16], sid: [u
 }
 
 // Row 16, then the packet with no SRH.
-fn send_plain(hops: u8, class: u8, upper: u8, source: [u8; 16], sid: [u8; 16], packet: &[u8], place: usize, out: &mut [u8]) -> Answer
+fn send_plain(
+    hops: u8,
+    class: u8,
+    upper: u8,
+    source: [u8; 16],
+    sid: [u8; 16],
+    packet: &[u8],
+    place: usize,
+    out: &mut [u8],
+) -> Answer
     requires { ⌜ (length (now packet) - place < 65536) × (place ≤ length (now packet)) ⌝ }
     ensures { λ a. ⌜ Answered (settle (length (now (out .entry))) (Sent (ipv6 class (length (drop place (now (packet .entry)))) upper hops source sid (drop place (now (packet .entry)))))) (now (out .entry)) a (now (out .exit)) ⌝ }
 {
@@ -132,7 +167,14 @@ pub fn at_d4(r: &[u8], h: rules::Header4, packet: &[u8], out: &mut [u8]) -> Answ
     let g = gtpu::datagram_at(packet, 20);
     let place = 20 + gtpu::inner_at(g);
     let size = octets::less(packet.len(), place);
-    let v = judge(r, h, g, size, octets::octet_or_0(packet, place), payload(w, size));
+    let v = judge(
+        r,
+        h,
+        g,
+        size,
+        octets::octet_or_0(packet, place),
+        payload(w, size),
+    );
     match v {
         rules::Verdict::Refuse(z) => Answer::refused(z),
         rules::Verdict::Pass => {

@@ -23,7 +23,17 @@ ghost use Rattle.gateway.specs.Parts.{Parts};
 ghost use Rattle.gateway.specs.Heads.{pathHead};
 
 // The headers before the inner packet: as D, with the arriving destination behind the last SID.
-fn put_head(e: &[u8], y: &[u8], n: usize, class: u8, upper: u8, sid: [u8; 16], to: [u8; 16], size: usize, out: &mut [u8])
+fn put_head(
+    e: &[u8],
+    y: &[u8],
+    n: usize,
+    class: u8,
+    upper: u8,
+    sid: [u8; 16],
+    to: [u8; 16],
+    size: usize,
+    out: &mut [u8],
+)
     requires { ⌜ (length (now e) ≡ 64) × (length (now y) ≡ 288) × (1 ≤ n) × (n ≤ 8) × (24 + 16 * n + size < 65536) × (64 + 16 * n ≤ length (now out)) ⌝ }
     ensures { λ _. ⌜ Run (now (out .entry)) 0 (64 + 16 * n) (pathHead class upper (Entry.hopLimit (now (e .entry))) (Entry.source (now (e .entry))) (getD (addressesAt (now (y .entry)) 16 (n - 1) ++ sid ∷ to ∷ []) 0 []) (n + 1) size (sid ∷ to ∷ []) (addressesAt (now (y .entry)) 16 (n - 1))) (now (out .exit)) ⌝ }
 {
@@ -36,7 +46,16 @@ fn put_head(e: &[u8], y: &[u8], n: usize, class: u8, upper: u8, sid: [u8; 16], t
 }
 
 // Row 16, then the packet. The policy has n SIDs, and the inner packet stands at `place`.
-fn send(e: &[u8], y: &[u8], n: usize, class: u8, args: args::Args, packet: &[u8], place: usize, out: &mut [u8]) -> Answer
+fn send(
+    e: &[u8],
+    y: &[u8],
+    n: usize,
+    class: u8,
+    args: args::Args,
+    packet: &[u8],
+    place: usize,
+    out: &mut [u8],
+) -> Answer
     requires { ⌜ (length (now e) ≡ 64) × (length (now y) ≡ 288) × (n ≡ Policy.sidCount (now y)) × (1 ≤ n) × (n ≤ 8) × (Policy.start (now y) ≤ 88) × (24 + 16 * n + (length (now packet) - place) < 65536) × Parts (carried6 (now packet)) (now packet) class (value args) place ⌝ }
     ensures { λ r. ⌜ Answered (settle (length (now (out .entry))) (Sent (diPacket (now (e .entry)) (now (y .entry)) (carried6 (now (packet .entry)))))) (now (out .entry)) r (now (out .exit)) ⌝ }
 {
@@ -63,7 +82,14 @@ pub fn at_di(e: &[u8], y: &[u8], h: rules::Header, packet: &[u8], out: &mut [u8]
     let g = gtpu::datagram_at(packet, at);
     let place = at + gtpu::inner_at(g);
     let size = octets::less(packet.len(), place);
-    let v = tunnel::judge(e, h, g, size, octets::octet_or_0(packet, place), 24 + 16 * n + size);
+    let v = tunnel::judge(
+        e,
+        h,
+        g,
+        size,
+        octets::octet_or_0(packet, place),
+        24 + 16 * n + size,
+    );
     match v {
         rules::Verdict::Refuse(r) => Answer::refused(r),
         rules::Verdict::Pass => {

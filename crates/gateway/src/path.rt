@@ -18,7 +18,16 @@ pub fn first_of(v: rules::Verdict, w: rules::Verdict) -> rules::Verdict
 }
 
 // The IPv6 header and the first eight octets of an SRH of n segments.
-pub fn put_front(out: &mut [u8], class: u8, upper: u8, hops: u8, source: [u8; 16], to: [u8; 16], n: usize, size: usize)
+pub fn put_front(
+    out: &mut [u8],
+    class: u8,
+    upper: u8,
+    hops: u8,
+    source: [u8; 16],
+    to: [u8; 16],
+    n: usize,
+    size: usize,
+)
     requires { ⌜ (48 ≤ length (now out)) × (8 + 16 * n + size < 65536) × (1 ≤ n) × (n ≤ 9) ⌝ }
     ensures { λ _. ⌜ Run (now (out .entry)) 0 48 (pathFront class upper hops source to n size) (now (out .exit)) ⌝ }
 {

@@ -41,7 +41,14 @@ fn judge_tunnel(h: rules::Header, g: rules::Datagram) -> rules::Verdict
 }
 
 // All of them, for an inner packet of `size` octets that begins with `first`, and the length field of what is to be sent.
-pub fn judge(e: &[u8], h: rules::Header, g: rules::Datagram, size: usize, first: u8, field: usize) -> rules::Verdict
+pub fn judge(
+    e: &[u8],
+    h: rules::Header,
+    g: rules::Datagram,
+    size: usize,
+    first: u8,
+    field: usize,
+) -> rules::Verdict
     requires { ⌜ length (now e) ≡ 64 ⌝ }
     ensures { λ r. ⌜ r ≡ verdict (gtp6Rows h g ++ (messageRows g ++ (gPduRows (Entry.direction (now (e .entry))) g ++ innerRows (Entry.session (now (e .entry))) size first field))) ⌝ }
 {
@@ -49,6 +56,6 @@ pub fn judge(e: &[u8], h: rules::Header, g: rules::Datagram, size: usize, first:
     let pdu = path::first_of(gtpu::judge_gpdu(e[3], g), inner);
     path::first_of(
         judge_tunnel(h, g),
-        path::first_of(gtpu::judge_message(g), pdu)
+        path::first_of(gtpu::judge_message(g), pdu),
     )
 }

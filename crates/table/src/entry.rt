@@ -27,7 +27,11 @@ pub const Q: usize = 8;
 
 pub const RESERVED: usize = 9;
 
+pub const SOURCE_PORT: usize = 10;
+
 pub const PREFIX: usize = 16;
+
+pub const SOURCE: usize = 32;
 
 // Behaviours (IANA, SRv6 Endpoint Behaviors).
 pub const END: u8 = 1;

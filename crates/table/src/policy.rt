@@ -10,6 +10,8 @@ pub const START: usize = 1;
 
 pub const RESERVED: usize = 2;
 
+pub const SIDS: usize = 16;
+
 pub(crate) fn sound(y: &[u8]) -> bool
     requires { ⌜ length (now y) ≡ 288 ⌝ }
     ensures { λ r. ⌜ r ≡ policySound (now (y .entry)) ⌝ }

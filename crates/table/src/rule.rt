@@ -29,6 +29,8 @@ pub const SID_PREFIX: usize = 16;
 
 pub const SOURCE_PREFIX: usize = 32;
 
+pub const WAYPOINTS: usize = 48;
+
 pub(crate) fn prefix_of(r: &[u8]) -> &[u8]
     requires { ⌜ length (now r) ≡ 160 ⌝ }
     ensures { λ p. ⌜ Lent (now p) (prefix (now (r .entry))) 4 ⌝ }

@@ -27,13 +27,15 @@ same-length c = search needs
 
 -- src/lib.rt:9:1
 returns : tie.Need-returns
-returns c = 
+returns c =
     let a = c .before .before .before .before .before .before .before .before .args in
     let o = translate6 (now (a .packet)) (now (a .table)) (length (now (a .out))) in
-    let r = c .before .before .before .translate-ipv6 .ensures in
-    (c .pack .ensures
-    ∙ ap (λ (x : Answer). packedFields (x .number) (x .icmpType) (x .icmpCode) (x .pointer) (x .size)) (r .tells)
-    ∙ packed-answer o, r .holds)
+    let r = c .before .before .before .translate-ipv6 .ensures in (
+      c .pack .ensures
+          ∙ ap (λ (x : Answer). packedFields (x .number) (x .icmpType) (x .icmpCode) (x .pointer) (x .size)) (r .tells)
+          ∙ packed-answer o,
+      r .holds,
+    )
 
 pub kawsarpa-translate-ipv6-spec : {M : Type 1} → statement M
 kawsarpa-translate-ipv6-spec =

@@ -55,7 +55,7 @@ same-length c = search needs
 
 -- src/calls.rt:43:9
 returns : tie.Need-returns
-returns c = 
+returns c =
     let s = c .before .before .before .before .before .before .before .before .before .before in
     let a = s .args in
     let p : List ℕ = now (a .packet) in
@@ -77,7 +77,7 @@ wide-requires c κs = search needs
 
 -- src/calls.rt:46:13
 policy-at-requires : tie.Need-policy-at-requires
-policy-at-requires c κs = 
+policy-at-requires c κs =
     let s = c .before .before .before .before .before .before .before .before .before in
     let a = s .args in
     let p : List ℕ = now (a .packet) in
@@ -92,7 +92,7 @@ policy-at-requires c κs =
 
 -- src/calls.rt:47:9
 at-d-requires : tie.Need-at-d-requires
-at-d-requires c κs = 
+at-d-requires c κs =
     let s = c .before .before .before .before .before .before .before .before .before .before .before in
     let a = s .args in
     let p : List ℕ = now (a .packet) in
@@ -114,7 +114,7 @@ same-length-2 c = search needs
 
 -- src/calls.rt:47:9
 returns-2 : tie.Need-returns-2
-returns-2 c = 
+returns-2 c =
     let s = c .before .before .before .before .before .before .before .before .before .before .before .before .before .before in
     let a = s .args in
     let p : List ℕ = now (a .packet) in
@@ -138,7 +138,7 @@ wide-requires-2 c κs = search needs
 
 -- src/calls.rt:50:13
 policy-at-requires-2 : tie.Need-policy-at-requires-2
-policy-at-requires-2 c κs = 
+policy-at-requires-2 c κs =
     let s = c .before .before .before .before .before .before .before .before .before .before in
     let a = s .args in
     let p : List ℕ = now (a .packet) in
@@ -153,7 +153,7 @@ policy-at-requires-2 c κs =
 
 -- src/calls.rt:51:9
 at-di-requires : tie.Need-at-di-requires
-at-di-requires c κs = 
+at-di-requires c κs =
     let s = c .before .before .before .before .before .before .before .before .before .before .before .before in
     let a = s .args in
     let p : List ℕ = now (a .packet) in
@@ -175,7 +175,7 @@ same-length-3 c = search needs
 
 -- src/calls.rt:51:9
 returns-3 : tie.Need-returns-3
-returns-3 c = 
+returns-3 c =
     let s = c .before .before .before .before .before .before .before .before .before .before .before .before .before .before .before in
     let a = s .args in
     let p : List ℕ = now (a .packet) in
@@ -191,7 +191,7 @@ returns-3 c =
 
 -- src/calls.rt:54:9
 at-e6-requires : tie.Need-at-e6-requires
-at-e6-requires c κs = 
+at-e6-requires c κs =
     let s = c .before .before .before .before .before .before .before .before .before .before in
     let a = s .args in
     let p : List ℕ = now (a .packet) in
@@ -210,7 +210,7 @@ same-length-4 c = search needs
 
 -- src/calls.rt:54:9
 returns-4 : tie.Need-returns-4
-returns-4 c = 
+returns-4 c =
     let s = c .before .before .before .before .before .before .before .before .before .before .before .before .before in
     let a = s .args in
     let p : List ℕ = now (a .packet) in
@@ -224,7 +224,7 @@ returns-4 c =
 
 -- src/calls.rt:56:5
 at-e4-requires : tie.Need-at-e4-requires
-at-e4-requires c κs = 
+at-e4-requires c κs =
     let s = c .before .before .before .before .before .before .before .before .before .before in
     let a = s .args in
     let p : List ℕ = now (a .packet) in
@@ -243,7 +243,7 @@ same-length-5 c = search needs
 
 -- src/calls.rt:36:1
 returns-5 : tie.Need-returns-5
-returns-5 c = 
+returns-5 c =
     let s = c .before .before .before .before .before .before .before .before .before .before .before .before .before in
     let a = s .args in
     let p : List ℕ = now (a .packet) in

@@ -33,7 +33,7 @@ slice-aggregate-find-entry c = search needs
 
 -- src/calls.rt:65:9
 find-entry-requires : tie.Need-find-entry-requires
-find-entry-requires c κs = 
+find-entry-requires c κs =
     let s = c .before .before .before .before .before in
     let a = s .args in
     let p : List ℕ = now (a .packet) in
@@ -54,7 +54,7 @@ enum-known-found c = search needs
 
 -- src/calls.rt:68:32
 at-entry-requires : tie.Need-at-entry-requires
-at-entry-requires c κs = 
+at-entry-requires c κs =
     let s = c .before .before .before .before .before .before .before .before .before .before in
     let a = s .args in
     let p : List ℕ = now (a .packet) in
@@ -65,7 +65,7 @@ at-entry-requires c κs =
 -- src/calls.rt:60:1
 returns : tie.Need-returns
 unfolding atFoundEntry settle
-returns c = 
+returns c =
     let s = c .before .before .before .before .before .before .before .before .before in
     let a = s .args in
     let p : List ℕ = now (a .packet) in
@@ -80,7 +80,7 @@ same-length c = search needs
 -- src/calls.rt:60:1
 returns-2 : tie.Need-returns-2
 unfolding atFoundEntry
-returns-2 c = 
+returns-2 c =
     let s = c .before .before .before .before .before .before .before .before .before .before .before .before .before in
     let a = s .args in
     let p : List ℕ = now (a .packet) in

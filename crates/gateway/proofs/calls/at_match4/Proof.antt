@@ -39,7 +39,7 @@ slice-aggregate-find-rule c = search needs
 
 -- src/calls.rt:93:9
 find-rule-requires : tie.Need-find-rule-requires
-find-rule-requires c κs = 
+find-rule-requires c κs =
     let s = c .before .before .before .before .before in
     let a = s .args in
     let p : List ℕ = now (a .packet) in
@@ -60,7 +60,7 @@ enum-known-found c = search needs
 
 -- src/calls.rt:97:17
 rule-at-requires : tie.Need-rule-at-requires
-rule-at-requires c κs = 
+rule-at-requires c κs =
     let s = c .before .before .before .before .before .before .before .before .before in
     let a = s .args in
     let p : List ℕ = now (a .packet) in
@@ -70,7 +70,7 @@ rule-at-requires c κs =
 
 -- src/calls.rt:98:13
 at-d4-requires : tie.Need-at-d4-requires
-at-d4-requires c κs = 
+at-d4-requires c κs =
     let s = c .before .before .before .before .before .before .before .before .before .before .before in
     let a = s .args in
     let p : List ℕ = now (a .packet) in
@@ -83,7 +83,7 @@ at-d4-requires c κs =
 -- src/calls.rt:88:1
 returns : tie.Need-returns
 unfolding atFoundRule settle
-returns c = 
+returns c =
     let s = c .before .before .before .before .before .before .before .before .before in
     let a = s .args in
     let p : List ℕ = now (a .packet) in
@@ -98,7 +98,7 @@ same-length c = search needs
 -- src/calls.rt:88:1
 returns-2 : tie.Need-returns-2
 unfolding atFoundRule
-returns-2 c = 
+returns-2 c =
     let s = c .before .before .before .before .before .before .before .before .before .before .before .before .before .before in
     let a = s .args in
     let p : List ℕ = now (a .packet) in

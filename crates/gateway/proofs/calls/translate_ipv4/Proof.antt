@@ -37,7 +37,7 @@ plain-requires c κs = search needs
 
 -- src/calls.rt:108:9
 returns : tie.Need-returns
-returns c = 
+returns c =
     let s = c .before .before .before .before .before .before in
     let a = s .args in
     let p : List ℕ = now (a .packet) in
@@ -64,7 +64,7 @@ plain-requires-2 c κs = search needs
 -- src/calls.rt:112:9
 returns-2 : tie.Need-returns-2
 unfolding header4
-returns-2 c = 
+returns-2 c =
     let s = c .before .before .before .before .before .before .before .before .before .before in
     let a = s .args in
     let p : List ℕ = now (a .packet) in
@@ -84,7 +84,7 @@ plain-requires-3 c κs = search needs
 -- src/calls.rt:115:9
 returns-3 : tie.Need-returns-3
 unfolding header4
-returns-3 c = 
+returns-3 c =
     let s = c .before .before .before .before .before .before .before .before .before .before .before .before in
     let a = s .args in
     let p : List ℕ = now (a .packet) in
@@ -96,7 +96,7 @@ returns-3 c =
 -- src/calls.rt:117:5
 at-match4-requires : tie.Need-at-match4-requires
 unfolding header4
-at-match4-requires c κs = 
+at-match4-requires c κs =
     let s = c .before .before .before .before .before .before .before .before .before .before .before .before in
     let a = s .args in
     let p : List ℕ = now (a .packet) in
@@ -112,7 +112,7 @@ same-length c = search needs
 -- src/calls.rt:104:1
 returns-4 : tie.Need-returns-4
 unfolding header4
-returns-4 c = 
+returns-4 c =
     let s = c .before .before .before .before .before .before .before .before .before .before .before .before .before .before .before in
     let a = s .args in
     let p : List ℕ = now (a .packet) in

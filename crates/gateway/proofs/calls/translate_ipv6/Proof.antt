@@ -36,7 +36,7 @@ plain-requires c κs = search needs
 
 -- src/calls.rt:77:9
 returns : tie.Need-returns
-returns c = 
+returns c =
     let s = c .before .before .before .before .before .before in
     let a = s .args in
     let p : List ℕ = now (a .packet) in
@@ -63,7 +63,7 @@ plain-requires-2 c κs = search needs
 -- src/calls.rt:82:9
 returns-2 : tie.Need-returns-2
 unfolding header
-returns-2 c = 
+returns-2 c =
     let s = c .before .before .before .before .before .before .before .before .before .before in
     let a = s .args in
     let p : List ℕ = now (a .packet) in
@@ -75,7 +75,7 @@ returns-2 c =
 -- src/calls.rt:84:5
 at-match-requires : tie.Need-at-match-requires
 unfolding header
-at-match-requires c κs = 
+at-match-requires c κs =
     let s = c .before .before .before .before .before .before .before .before .before .before in
     let a = s .args in
     let p : List ℕ = now (a .packet) in
@@ -91,7 +91,7 @@ same-length c = search needs
 -- src/calls.rt:73:1
 returns-3 : tie.Need-returns-3
 unfolding header
-returns-3 c = 
+returns-3 c =
     let s = c .before .before .before .before .before .before .before .before .before .before .before .before .before in
     let a = s .args in
     let p : List ℕ = now (a .packet) in

@@ -97,7 +97,7 @@ args-at-requires c κs = search needs
 
 -- src/d.rt:79:13
 send-requires : tie.Need-send-requires
-send-requires c κs = 
+send-requires c κs =
     let s = c .before .before .before .before .before .before .before .before .before .before .before .before .before .before .before .before in
     let a = s .args in
     let p : List ℕ = now (a .packet) in
@@ -111,7 +111,7 @@ send-requires c κs =
 -- src/d.rt:65:1
 returns : tie.Need-returns
 unfolding atD
-returns c = 
+returns c =
     let s = c .before .before .before .before .before .before .before .before .before .before .before .before .before .before .before .before in
     let a = s .args in
     let p : List ℕ = now (a .packet) in
@@ -126,7 +126,7 @@ same-length c = search needs
 -- src/d.rt:65:1
 returns-2 : tie.Need-returns-2
 unfolding atD
-returns-2 c = 
+returns-2 c =
     let s = c .before .before .before .before .before .before .before .before .before .before .before .before .before .before .before .before .before .before .before in
     let a = s .args in
     let p : List ℕ = now (a .packet) in

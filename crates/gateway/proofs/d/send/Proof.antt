@@ -52,7 +52,7 @@ plain-requires c κs = search needs
 
 -- src/d.rt:54:9
 returns : tie.Need-returns
-returns c = 
+returns c =
     let s = c .before .before .before .before .before .before in
     let a = s .args in
     let p : List ℕ = now (a .packet) in
@@ -128,7 +128,7 @@ same-length c = search needs
 -- src/d.rt:48:1
 returns-2 : tie.Need-returns-2
 unfolding overlay
-returns-2 c = 
+returns-2 c =
     let s = c .before .before .before .before .before .before .before .before .before .before .before .before .before .before .before .before .before .before .before .before in
     let a = s .args in
     let p : List ℕ = now (a .packet) in

@@ -77,7 +77,7 @@ args-at-requires c κs = search needs
 
 -- src/d4.rt:140:13
 send-requires : tie.Need-send-requires
-send-requires c κs = 
+send-requires c κs =
     let s = c .before .before .before .before .before .before .before .before .before .before .before .before .before .before .before in
     let a = s .args in
     let p : List ℕ = now (a .packet) in
@@ -90,7 +90,7 @@ send-requires c κs =
 
 -- src/d4.rt:127:1
 returns : tie.Need-returns
-returns c = 
+returns c =
     let s = c .before .before .before .before .before .before .before .before .before .before .before .before .before .before .before in
     let a = s .args in
     let p : List ℕ = now (a .packet) in
@@ -103,7 +103,7 @@ same-length c = search needs
 
 -- src/d4.rt:127:1
 returns-2 : tie.Need-returns-2
-returns-2 c = 
+returns-2 c =
     let s = c .before .before .before .before .before .before .before .before .before .before .before .before .before .before .before .before .before .before in
     let a = s .args in
     let p : List ℕ = now (a .packet) in

@@ -51,7 +51,7 @@ copy-to-requires-2 c κs = search needs
 
 -- src/d4.rt:58:1
 returns : tie.Need-returns
-returns c = 
+returns c =
     let s = c .before .before .before .before .before .before .before .before .before in
     let a = s .args in
     let r : List ℕ = now (a .r) in

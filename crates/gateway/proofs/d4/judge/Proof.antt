@@ -54,7 +54,7 @@ first-of-requires-3 c κs = search needs
 
 -- src/d4.rt:45:1
 returns : tie.Need-returns
-returns c = 
+returns c =
     let a = c .before .before .before .before .before .before .before .before .before .before .args in
     let r : List ℕ = now (a .r) in
     let inner = innerRows (octet r 3) (a .size) (a .first) (a .field) in

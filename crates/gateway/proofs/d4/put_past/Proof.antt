@@ -53,7 +53,7 @@ same-length c = search needs
 
 -- src/d4.rt:88:1
 returns : tie.Need-returns
-returns c = 
+returns c =
     let s = c .before .before .before .before .before .before .before .before .before .before .before .before .before .before .before .before .before in
     let a = s .args in
     let r : List ℕ = now (a .r) in

@@ -43,7 +43,7 @@ plain-requires c κs = search needs
 
 -- src/d4.rt:105:9
 returns : tie.Need-returns
-returns c = 
+returns c =
     let s = c .before .before .before .before .before in
     let a = s .args in
     let p : List ℕ = now (a .packet) in
@@ -90,7 +90,7 @@ same-length c = search needs
 -- src/d4.rt:99:1
 returns-2 : tie.Need-returns-2
 unfolding overlay
-returns-2 c = 
+returns-2 c =
     let s = c .before .before .before .before .before .before .before .before .before .before .before .before .before in
     let a = s .args in
     let p : List ℕ = now (a .packet) in

@@ -43,7 +43,7 @@ in-sid-requires c κs = search needs
 
 -- src/d4.rt:70:1
 returns : tie.Need-returns
-returns c = 
+returns c =
     let a = c .before .before .before .before .before .args in
     c .in-sid .ensures ∙ ap (λ (b : List ℕ). withArgs b (8 * (octet (now (a .r)) 4 + 4)) (value (a .args))) (c .before .behind .ensures ∙ ap (λ (k : ℕ). addressBehind (window (now (a .r)) 16 16) k (a .to)) (c .before .before .wide .ensures .0))
 

@@ -76,7 +76,7 @@ same-length c = search needs
 
 -- src/di.rt:26:1
 returns : tie.Need-returns
-returns c = 
+returns c =
     let s = c .before .before .before .before .before .before .before .before .before .before .before .before .before .before .before .before .before .before .before .before .before .before .before .before in
     let a = s .args in
     let y : List ℕ = now (a .y) in

@@ -114,7 +114,7 @@ same-length c = search needs
 -- src/e4.rt:70:1
 returns : tie.Need-returns
 unfolding e4Head
-returns c = 
+returns c =
     let a = c .before .before .before .before .before .before .before .before .before .before .before .before .before .before .before .before .before .before .before .before .before .before .before .before .args in
     let e : List ℕ = now (a .e) in
     let r₁ = c .before .before .before .before .before .before .before .before .before .before .put-ipv4 .ensures in

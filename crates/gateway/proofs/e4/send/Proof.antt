@@ -40,7 +40,7 @@ plain-requires c κs = search needs
 
 -- src/e4.rt:91:9
 returns : tie.Need-returns
-returns c = 
+returns c =
     let s = c .before .before .before .before .before in
     let a = s .args in
     let p : List ℕ = now (a .packet) in
@@ -78,7 +78,7 @@ same-length c = search needs
 
 -- src/e4.rt:85:1
 returns-2 : tie.Need-returns-2
-returns-2 c = 
+returns-2 c =
     let s = c .before .before .before .before .before .before .before .before .before .before .before .before .before .before .before in
     let a = s .args in
     let p : List ℕ = now (a .packet) in

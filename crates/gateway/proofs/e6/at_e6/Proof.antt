@@ -52,7 +52,7 @@ enum-told c = search needs
 -- src/e6.rt:120:33
 send-requires : tie.Need-send-requires
 unfolding header
-send-requires c κs = 
+send-requires c κs =
     let s = c .before .before .before .before .before .before .before .before .before in
     let a = s .args in
     let p : List ℕ = now (a .packet) in
@@ -62,7 +62,7 @@ send-requires c κs =
 
 -- src/e6.rt:112:1
 returns : tie.Need-returns
-returns c = 
+returns c =
     let s = c .before .before .before .before .before .before .before .before .before .before in
     let a = s .args in
     answered-refused _ _ _ _ (e6-refuses (now (a .e)) (now (a .packet)) (a .h) (s .pre .2) (length (now (a .out))) _ _ (c .before .before .before .before .before .less .ensures) (c .before .before .before .before .judge .ensures) _ (c .before .before .v .given .1)) (c .refused .ensures)
@@ -73,7 +73,7 @@ same-length c = search needs
 
 -- src/e6.rt:112:1
 returns-2 : tie.Need-returns-2
-returns-2 c = 
+returns-2 c =
     let s = c .before .before .before .before .before .before .before .before .before .before .before .before in
     let a = s .args in
     answered-as _ _ _ _ _ (sym (e6-passes (now (a .e)) (now (a .packet)) (a .h) (s .pre .2) (length (now (a .out))) _ _ (c .before .before .before .before .before .before .before .less .ensures) (c .before .before .before .before .before .before .judge .ensures) (c .before .before .before .before .enum-told .given .1))) (c .before .before .send .ensures)

@@ -81,7 +81,7 @@ same-length c = search needs
 -- src/e6.rt:84:1
 returns : tie.Need-returns
 unfolding e6Head
-returns c = 
+returns c =
     let a = c .before .before .before .before .before .before .before .before .before .before .before .before .before .before .before .before .before .before .args in
     let e : List ℕ = now (a .e) in
     let r₁ = c .before .before .before .before .before .before .before .before .before .before .put-ipv6 .ensures in

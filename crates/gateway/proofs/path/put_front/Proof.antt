@@ -69,7 +69,7 @@ same-length c = search needs
 -- src/path.rt:21:1
 returns : tie.Need-returns
 unfolding pathFront
-returns c = 
+returns c =
     let a = c .before .before .before .before .before .before .before .before .before .before .args in
     run-as (next (c .before .before .before .before .before .before .before .put-ipv6 .ensures) _ 8 (c .before .before .copy-to .ensures) refl refl (omega arith))
     (ipv6-before (a .class) (8 + 16 * a .n + a .size) 43 (a .hops) (a .source) (a .to) (a .upper ∷ (2 * a .n) ∷ 4 ∷ (a .n - 1) ∷ (a .n - 1) ∷ 0 ∷ 0 ∷ 0 ∷ []))

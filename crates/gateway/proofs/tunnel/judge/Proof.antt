@@ -54,7 +54,7 @@ first-of-requires-3 c κs = search needs
 
 -- src/tunnel.rt:44:1
 returns : tie.Need-returns
-returns c = 
+returns c =
     let a = c .before .before .before .before .before .before .before .before .before .before .args in
     let e : List ℕ = now (a .e) in
     let inner = innerRows (octet e 4) (a .size) (a .first) (a .field) in

@@ -34,7 +34,7 @@ plain-requires c κs = search needs
 
 -- src/waypoint.rt:59:9
 returns : tie.Need-returns
-returns c = 
+returns c =
     let s = c .before .before .before .before .before in
     let a = s .args in
     answered-refused _ (plain 5) _ _ (chain-refuses (now (a .packet)) (a .h) (s .pre .0) (length (now (a .out))) (sym (c .before .before .bad-chain .ensures) ∙ c .before .if1 .taken)) (c .plain .ensures)
@@ -69,7 +69,7 @@ enum-told c = search needs
 
 -- src/waypoint.rt:69:13
 forward-requires : tie.Need-forward-requires
-forward-requires c κs = 
+forward-requires c κs =
     let s = c .before .before .before .before .before .before .before .before .before .before .before .before .before in
     let a = s .args in
     let p : List ℕ = now (a .packet) in
@@ -78,7 +78,7 @@ forward-requires c κs =
 
 -- src/waypoint.rt:54:1
 returns-2 : tie.Need-returns-2
-returns-2 c = 
+returns-2 c =
     let s = c .before .before .before .before .before .before .before .before .before .before .before .before in
     let a = s .args in
     let p : List ℕ = now (a .packet) in
@@ -91,7 +91,7 @@ same-length c = search needs
 
 -- src/waypoint.rt:54:1
 returns-3 : tie.Need-returns-3
-returns-3 c = 
+returns-3 c =
     let s = c .before .before .before .before .before .before .before .before .before .before .before .before .before .before .before .before in
     let a = s .args in
     let p : List ℕ = now (a .packet) in

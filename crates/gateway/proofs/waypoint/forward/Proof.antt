@@ -24,7 +24,7 @@ plain-requires c κs = search needs
 
 -- src/waypoint.rt:47:9
 returns : tie.Need-returns
-returns c = 
+returns c =
     let s = c .before .before .before .before in
     let a = s .args in
     let st : Routing = record { segmentsLeft = a .left; hopLimit = a .hops; destination = a .destination } in
@@ -46,7 +46,7 @@ same-length c = search needs
 
 -- src/waypoint.rt:42:1
 returns-2 : tie.Need-returns-2
-returns-2 c = 
+returns-2 c =
     let s = c .before .before .before .before .before .before .before .before in
     let a = s .args in
     let st : Routing = record { segmentsLeft = a .left; hopLimit = a .hops; destination = a .destination } in

@@ -42,7 +42,7 @@ same-length c = search needs
 
 -- src/waypoint.rt:29:1
 returns : tie.Need-returns
-returns c = 
+returns c =
     let s = c .before .before .before .before .before .before .before .before .before .before .before .before .before .before .before .before .before .before .before .before .before in
     let a = s .args in
     copied-over (now (a .out)) (now (a .packet)) (a .hops) (a .left) (a .t2) _ _ _ _ (s .pre .0) (omega (arith, s)) (c .before .before .before .before .before .before .before .before .before .before .before .before .before .before .before .before .before .copy-to .ensures) (c .before .before .before .before .before .before .before .before .before .before .before .before .copy-to2 .ensures) (c .before .before .before .before .before .before .before .copy-to3 .ensures) (c .before .before .copy-to4 .ensures)
