@@ -37,11 +37,12 @@ format:
 second:
 	cd tests/second && cargo test --release --offline --quiet && cargo run --release --offline --quiet -- worked
 
-# the header, the exported functions called from C, and the program
-library:
+# the header, the exported functions called from C, also with cases of the second program, and the program
+library: second
 	rt staticlib kawsarpa
 	rt check empty_table
 	tests/c/run.sh target/staticlib/libkawsarpa.a
+	tests/c/vectors.sh target/staticlib/libkawsarpa.a tests/second/target/release/second
 	tests/program/run.sh target/bin/empty_table
 
 clean:
