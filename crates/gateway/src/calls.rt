@@ -6,6 +6,7 @@ use crate::di;
 use crate::e4;
 use crate::e6;
 use crate::waypoint;
+use table::entry;
 ghost use mathlib.Core.Path.{_≡_};
 ghost use mathlib.Core.Bool.{true};
 ghost use mathlib.Core.List.{List};
@@ -23,15 +24,6 @@ ghost use Rattle.rules.specs.declared.Found.the-variants.{At, Nothing};
 ghost use Rattle.gateway.specs.Answered.{Answered};
 ghost use Rattle.gateway.specs.Sight.{Sight, Sight4};
 
-// Assigned numbers of behaviours (IANA, SRv6 Endpoint Behaviors).
-const END: u8 = 1;
-
-const END_M_GTP6_D: u8 = 69;
-
-const END_M_GTP6_D_DI: u8 = 70;
-
-const END_M_GTP6_E: u8 = 71;
-
 // The packet at entry i, which matches.
 fn at_entry(
     table: &[u8],
@@ -45,19 +37,19 @@ fn at_entry(
     ensures { λ a. ⌜ Answered (settle (length (now (out .entry))) (atEntry (now (table .entry)) (entryAt (now (table .entry)) i) (now (packet .entry)))) (now (out .entry)) a (now (out .exit)) ⌝ }
 {
     let e = table::entry_at(table, i);
-    let behaviour = e[0];
-    if behaviour == END {
+    let behaviour = e[entry::BEHAVIOUR];
+    if behaviour == entry::END {
         return waypoint::at_waypoint(h, front, packet, out);
     }
-    if behaviour == END_M_GTP6_D {
-        let y = table::policy_at(table, octets::wide(e[5]));
+    if behaviour == entry::END_M_GTP6_D {
+        let y = table::policy_at(table, octets::wide(e[entry::POLICY]));
         return d::at_d(e, y, h, packet, out);
     }
-    if behaviour == END_M_GTP6_D_DI {
-        let y = table::policy_at(table, octets::wide(e[5]));
+    if behaviour == entry::END_M_GTP6_D_DI {
+        let y = table::policy_at(table, octets::wide(e[entry::POLICY]));
         return di::at_di(e, y, h, packet, out);
     }
-    if behaviour == END_M_GTP6_E {
+    if behaviour == entry::END_M_GTP6_E {
         return e6::at_e6(e, h, packet, out);
     }
     e4::at_e4(e, h, packet, out)
