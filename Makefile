@@ -1,7 +1,13 @@
 # Kawsarpa. `make` proves every crate; `make test` is the gate.
 
+SHELL := bash
+.SHELLFLAGS := -eu -o pipefail -c
 .DELETE_ON_ERROR:
-.PHONY: all prove test toolchain tools format second library clean
+.NOTPARALLEL:
+.PHONY: all prove test ci toolchain tools format second library programs clean
+
+archive := target/staticlib/libkawsarpa.a
+second := tests/second/target/release/second
 
 all: prove
 
@@ -9,9 +15,13 @@ all: prove
 prove: toolchain
 	rt check
 
-# Everything. The last command is `rt ci`, which proves all from nothing, tries the must-fail edits and says last what passed.
-test: toolchain tools format second library
-	rt ci
+# Everything. The library is built from what `rt ci` proved, so that is first; its count of what passed is said again at the end.
+test: toolchain tools format second ci library programs
+	@tail -n 1 target/ci.log
+
+# every proof from nothing, and the must-fail edits; `rt ci` removes target/, so its output goes there afterwards
+ci: toolchain
+	log=$$(mktemp); trap 'rm -f "$$log"' EXIT; rt ci | tee "$$log"; cp "$$log" target/ci.log
 
 # the proofs were checked with the toolchain that the file names
 toolchain:
@@ -37,13 +47,17 @@ format:
 second:
 	cd tests/second && cargo test --release --offline --quiet && cargo run --release --offline --quiet -- worked
 
-# the header, the exported functions called from C, also with cases of the second program, and the program
+# the header, and the exported functions called from C, also with cases of the second program
 library: second
 	rt staticlib kawsarpa
-	rt check empty_table
-	tests/c/run.sh target/staticlib/libkawsarpa.a
-	tests/c/vectors.sh target/staticlib/libkawsarpa.a tests/second/target/release/second
-	tests/program/run.sh target/bin/empty_table
+	tests/c/run.sh $(archive)
+	tests/c/vectors.sh $(archive) $(second)
+
+# the two programs; `worked` is given cases of the second program
+programs: second
+	rt check empty_table worked
+	tests/program/empty_table.sh target/bin/empty_table
+	tests/program/worked.sh $(second)
 
 clean:
 	rm -rf target tests/second/target

@@ -6,7 +6,8 @@
 //! - [`ipv6`], [`ipv4`], [`udp`], [`gtpu`], [`args`]: what is read;
 //! - [`outgoing`]: what is written;
 //! - [`answer`]: the answer numbers and the packed answer;
-//! - [`generate`], [`coverage`], [`vectors`], [`worked`], [`trips`]: cases and checks.
+//! - [`generate`], [`coverage`], [`vectors`], [`worked`], [`trips`],
+//!   [`program`]: cases and checks.
 
 pub mod answer;
 pub mod args;
@@ -16,6 +17,7 @@ pub mod gtpu;
 pub mod ipv4;
 pub mod ipv6;
 pub mod outgoing;
+pub mod program;
 pub mod rng;
 pub mod table;
 pub mod translate;

@@ -1,6 +1,6 @@
 //! The command `second`.
 
-use second::{coverage, generate, trips, vectors, worked, Kind};
+use second::{coverage, generate, program, trips, vectors, worked, Kind};
 use std::collections::HashMap;
 use std::io::{self, BufWriter, Write};
 use std::process::ExitCode;
@@ -15,12 +15,18 @@ usage:
       print K cases for each kind, packets of at most L octets (400 if not given),
       a line each: kind call number icmp_type icmp_code icmp_pointer length room
       packet-hex table-hex out-hex; '-' is an empty field, '#' begins a comment
-  second show --seed N --index I
-      print case I of a seed as a line of the same form
+  second show --seed N --index I [--packet P]
+      print case I of a seed, or packet P for its table, as a line of the same form
   second check
       read such lines from standard input and run them here
   second worked
       run the worked packets of document 01
+  second program-input --seed N --per-kind K [--max-worked L]
+  second program-output --seed N --per-kind K [--max-worked L]
+      what the library's program `worked` reads, and what it should print: the
+      worked packets that are calls (of at most L octets, if given), then K cases
+      for each kind; case D N:I:P is that of
+      second show --seed N --index I --packet P
   second trips --seed N --cases M
       run M whole trips, each followed by two second trips
   second --help
@@ -129,12 +135,18 @@ fn run(words: &[String], out: &mut impl Write) -> Result<(), Failure> {
             }
         }
         "show" => {
-            let options = Options::parse(rest, &["--seed", "--index"])?;
+            let options = Options::parse(rest, &["--seed", "--index", "--packet"])?;
             let (seed, index) = (options.get("--seed")?, options.get("--index")?);
-            let case = generate::case(seed, index);
+            let (case, packet) = match options.get("--packet") {
+                Ok(packet) => (
+                    generate::another(seed, index, packet),
+                    format!(" packet {packet}"),
+                ),
+                Err(_) => (generate::case(seed, index), String::new()),
+            };
             writeln!(
                 out,
-                "# seed {seed} index {index}: {}",
+                "# seed {seed} index {index}{packet}: {}",
                 case.notes.join("; ")
             )?;
             writeln!(out, "{}", vectors::line(&case))?;
@@ -168,6 +180,17 @@ fn run(words: &[String], out: &mut impl Write) -> Result<(), Failure> {
             writeln!(out, "{} worked packets, {failed} failed", lines.len())?;
             if failed > 0 {
                 return Err(Failure::Check(format!("{failed} worked packets failed")));
+            }
+        }
+        "program-input" | "program-output" => {
+            let options = Options::parse(rest, &["--seed", "--per-kind", "--max-worked"])?;
+            let (seed, per_kind) = (options.get("--seed")?, options.get("--per-kind")?);
+            let max_worked = usize::try_from(options.get_or("--max-worked", u64::MAX));
+            let run = program::run(seed, per_kind, max_worked.unwrap_or(usize::MAX))
+                .map_err(Failure::Check)?;
+            match command.as_str() {
+                "program-input" => out.write_all(&run.input)?,
+                _ => out.write_all(run.output.as_bytes())?,
             }
         }
         "trips" => {

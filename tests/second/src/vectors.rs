@@ -24,7 +24,8 @@ pub fn leaves_out_15(kind: Kind, max_packet: usize) -> bool {
 /// More room than any case has.
 const LARGEST_ROOM: usize = 1 << 24;
 
-fn hex(octets: &[u8]) -> String {
+/// Hexadecimal digits; no octets are `-`.
+pub fn hex(octets: &[u8]) -> String {
     if octets.is_empty() {
         return "-".to_string();
     }
@@ -163,22 +164,42 @@ pub fn select(
     max_packet: usize,
     tries: u64,
 ) -> Result<Vec<(u64, Case)>, String> {
+    let cases = (0..tries).map(|index| (index, generate::case(seed, index)));
+    let mut selected = select_from(cases, per_kind, max_packet)?;
+    selected.sort_by_key(|(index, case)| {
+        (
+            Kind::ALL.iter().position(|&k| k == case.kind),
+            case.answer.number,
+            *index,
+        )
+    });
+    Ok(selected)
+}
+
+/// The first of these named cases that make up `per_kind` of each kind, with
+/// packets of at most `max_packet` octets. An error if they run out.
+pub fn select_from<Name>(
+    cases: impl Iterator<Item = (Name, Case)>,
+    per_kind: u64,
+    max_packet: usize,
+) -> Result<Vec<(Name, Case)>, String> {
     let mut quotas: Vec<Quota> = Kind::ALL
         .iter()
         .map(|&kind| Quota::new(kind, per_kind, max_packet))
         .collect();
     let mut selected = Vec::new();
-    for index in 0..tries {
+    let mut tries = 0;
+    for (name, case) in cases {
         if quotas.iter().all(|q| q.left() == 0) {
             break;
         }
-        let case = generate::case(seed, index);
+        tries += 1;
         if case.packet.len() > max_packet {
             continue;
         }
         let quota = quotas.iter_mut().find(|q| q.kind == case.kind);
         if quota.is_some_and(|q| q.take(case.answer.number)) {
-            selected.push((index, case));
+            selected.push((name, case));
         }
     }
     let missing: Vec<String> = quotas
@@ -198,13 +219,6 @@ pub fn select(
             missing.join(", ")
         ));
     }
-    selected.sort_by_key(|(index, case)| {
-        (
-            Kind::ALL.iter().position(|&k| k == case.kind),
-            case.answer.number,
-            *index,
-        )
-    });
     Ok(selected)
 }
 

@@ -15,6 +15,16 @@ pub struct Line {
     pub result: Result<(), String>,
 }
 
+/// A worked packet that is a call, with the answer that the document gives.
+pub struct WorkedCall {
+    pub words: &'static str,
+    pub call: Call,
+    pub packet: Vec<u8>,
+    pub table: Vec<u8>,
+    pub room: usize,
+    pub answer: Answer,
+}
+
 const ARGS: ArgsMobSession = ArgsMobSession {
     qfi: 9,
     reflective: true,
@@ -157,7 +167,7 @@ fn call(call: Call, packet: &[u8], table: &[u8], room: usize) -> (Answer, Vec<u8
 }
 
 fn call6(packet: &[u8], table: &[u8]) -> (Answer, Vec<u8>) {
-    call(Call::Ipv6, packet, table, 70_000)
+    call(Call::Ipv6, packet, table, ROOM)
 }
 
 fn equal<T: PartialEq + std::fmt::Debug>(got: T, wanted: T) -> Result<(), String> {
@@ -178,7 +188,167 @@ fn refused(number: u8, icmp_type: u8, icmp_code: u8, icmp_pointer: u16) -> Answe
     }
 }
 
-/// All worked packets in the order of the document.
+/// Room for every result.
+const ROOM: usize = 70_000;
+
+/// The worked packets that are calls, in the order of the document.
+pub fn calls() -> Vec<WorkedCall> {
+    let mut calls = Vec::new();
+    let mut ipv6 = |words, packet: &[u8], table: &[u8], room, answer| {
+        calls.push(WorkedCall {
+            words,
+            call: Call::Ipv6,
+            packet: packet.to_vec(),
+            table: table.to_vec(),
+            room,
+            answer,
+        })
+    };
+    let packet = over_ipv6(100);
+    let with = |behaviour, sids| table_of(behaviour, sids);
+    ipv6(
+        "D with one SID sends 164",
+        &packet,
+        &with(d, 1),
+        ROOM,
+        Answer::sent(164),
+    );
+    ipv6(
+        "D with three SIDs sends 196",
+        &packet,
+        &with(d, 3),
+        ROOM,
+        Answer::sent(196),
+    );
+    ipv6(
+        "Di with one SID sends 180",
+        &packet,
+        &with(di, 1),
+        ROOM,
+        Answer::sent(180),
+    );
+    let sent_by_di = call6(&packet, &with(di, 1)).1;
+    ipv6(
+        "E6 makes 164 of it",
+        &sent_by_di,
+        &e6_table(),
+        ROOM,
+        Answer::sent(164),
+    );
+    ipv6(
+        "result 164, room 163: 16",
+        &packet,
+        &with(d, 1),
+        163,
+        refused(16, 0, 0, 0),
+    );
+    ipv6(
+        "result 164, room 164: sent",
+        &packet,
+        &with(d, 1),
+        164,
+        Answer::sent(164),
+    );
+
+    let at_e6 = |segments_left| with_srh(FAR_WITH_ARGS, 64, segments_left);
+    ipv6(
+        "E6 with SL 0: 7",
+        &at_e6(0),
+        &e6_table(),
+        ROOM,
+        refused(7, 4, 0, 43),
+    );
+    ipv6(
+        "E6 with SL 2: 7",
+        &at_e6(2),
+        &e6_table(),
+        ROOM,
+        refused(7, 4, 0, 43),
+    );
+    ipv6(
+        "E6 with SL 1 goes on",
+        &at_e6(1),
+        &e6_table(),
+        ROOM,
+        Answer::sent(66),
+    );
+
+    let at_waypoint = |hop_limit| with_srh(WAYPOINT, hop_limit, 1);
+    ipv6(
+        "waypoint, SL 1, hop limit 1: 6",
+        &at_waypoint(1),
+        &waypoint_table(),
+        ROOM,
+        refused(6, 3, 0, 0),
+    );
+    ipv6(
+        "waypoint, SL 1, hop limit 2: sent",
+        &at_waypoint(2),
+        &waypoint_table(),
+        ROOM,
+        Answer::sent(82),
+    );
+
+    ipv6(
+        "D with 8 SIDs: inner 65,399 is sent",
+        &over_ipv6(65_399),
+        &with(d, 8),
+        ROOM,
+        Answer::sent(65_575),
+    );
+    ipv6(
+        "D with 8 SIDs: inner 65,400 is 15",
+        &over_ipv6(65_400),
+        &with(d, 8),
+        ROOM,
+        refused(15, 0, 0, 0),
+    );
+
+    ipv6("empty: 2", &[], &with(d, 1), ROOM, refused(2, 0, 0, 0));
+    ipv6(
+        "39 octets: 2",
+        &over_ipv6(0)[..39],
+        &with(d, 1),
+        ROOM,
+        refused(2, 0, 0, 0),
+    );
+    let bare = self::ipv6(59, 64, NEAR, &[]);
+    ipv6(
+        "40 octets, next header 59, to a D entry: 8, pointer 40",
+        &bare,
+        &with(d, 1),
+        ROOM,
+        refused(8, 4, 4, 40),
+    );
+
+    let empty_table = Table::default().encode();
+    ipv6(
+        "no input, empty table: 2 and length 0",
+        &[],
+        &empty_table,
+        ROOM,
+        refused(2, 0, 0, 0),
+    );
+    ipv6(
+        "a packet, empty table: 4 and length 0",
+        &packet,
+        &empty_table,
+        ROOM,
+        refused(4, 0, 0, 0),
+    );
+
+    calls.push(WorkedCall {
+        words: "D4 with p = 6 and q = 8 sends 42",
+        call: Call::Ipv4,
+        packet: over_ipv4(2),
+        table: rule_table(),
+        room: ROOM,
+        answer: Answer::sent(42),
+    });
+    calls
+}
+
+/// All worked packets.
 pub fn lines() -> Vec<Line> {
     let mut lines = Vec::new();
     let mut line = |words: &str, result| {
@@ -249,91 +419,26 @@ pub fn lines() -> Vec<Line> {
         equal(sent.get(8..24), Some(&source[..])),
     );
 
+    for worked in calls() {
+        let (answer, _) = call(worked.call, &worked.packet, &worked.table, worked.room);
+        line(worked.words, equal(answer, worked.answer));
+    }
+
     let packet = over_ipv6(100);
     line(
         "inner 100: 164 octets in over IPv6",
         equal(packet.len(), 164),
     );
+    let (_, sent) = call6(&packet, &table_of(di, 1));
+    let (_, last) = call6(&sent, &e6_table());
     line(
-        "D with one SID sends 164",
-        equal(call6(&packet, &table_of(d, 1)).0, Answer::sent(164)),
-    );
-    line(
-        "D with three SIDs sends 196",
-        equal(call6(&packet, &table_of(d, 3)).0, Answer::sent(196)),
-    );
-    let (answer, sent) = call6(&packet, &table_of(di, 1));
-    line(
-        "Di with one SID sends 180",
-        equal(answer, Answer::sent(180)),
-    );
-    let (answer, last) = call6(&sent, &e6_table());
-    line("E6 makes 164 of it", equal(answer, Answer::sent(164)));
-    line(
-        "with the octets that went in behind the IPv6 header",
+        "E6 sends the octets that went in behind the IPv6 header",
         equal(last.get(48..), packet.get(48..)),
     );
-
-    let room = |room| call(Call::Ipv6, &packet, &table_of(d, 1), room).0;
-    line(
-        "result 164, room 163: 16",
-        equal(room(163), refused(16, 0, 0, 0)),
-    );
-    line(
-        "result 164, room 164: sent",
-        equal(room(164), Answer::sent(164)),
-    );
-
-    let e6 = |sl| call6(&with_srh(FAR_WITH_ARGS, 64, sl), &e6_table()).0;
-    line("E6 with SL 0: 7", equal(e6(0), refused(7, 4, 0, 43)));
-    line("E6 with SL 2: 7", equal(e6(2), refused(7, 4, 0, 43)));
-    line("E6 with SL 1 goes on", equal(e6(1), Answer::sent(66)));
-
-    let waypoint = |hop_limit| call6(&with_srh(WAYPOINT, hop_limit, 1), &waypoint_table());
-    line(
-        "waypoint, SL 1, hop limit 1: 6",
-        equal(waypoint(1).0, refused(6, 3, 0, 0)),
-    );
+    let (_, sent) = call6(&with_srh(WAYPOINT, 2, 1), &waypoint_table());
     line(
         "waypoint, SL 1, hop limit 2 leaves as 1",
-        equal(waypoint(2).1.get(7), Some(&1)),
-    );
-
-    let eight = |inner| call6(&over_ipv6(inner), &table_of(d, 8)).0;
-    line(
-        "D with 8 SIDs: inner 65,399 is sent",
-        equal(eight(65_399), Answer::sent(65_575)),
-    );
-    line(
-        "D with 8 SIDs: inner 65,400 is 15",
-        equal(eight(65_400), refused(15, 0, 0, 0)),
-    );
-
-    line(
-        "empty: 2",
-        equal(call6(&[], &table_of(d, 1)).0, refused(2, 0, 0, 0)),
-    );
-    line(
-        "39 octets: 2",
-        equal(
-            call6(&over_ipv6(0)[..39], &table_of(d, 1)).0,
-            refused(2, 0, 0, 0),
-        ),
-    );
-    let bare = ipv6(59, 64, NEAR, &[]);
-    line(
-        "40 octets, next header 59, to a D entry: 8, pointer 40",
-        equal(call6(&bare, &table_of(d, 1)).0, refused(8, 4, 4, 40)),
-    );
-
-    let empty_table = Table::default().encode();
-    line(
-        "no input, empty table: 2 and length 0",
-        equal(call6(&[], &empty_table).0, refused(2, 0, 0, 0)),
-    );
-    line(
-        "a packet, empty table: 4 and length 0",
-        equal(call6(&packet, &empty_table).0, refused(4, 0, 0, 0)),
+        equal(sent.get(7), Some(&1)),
     );
     lines
 }

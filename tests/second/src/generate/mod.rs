@@ -214,13 +214,28 @@ const LONGEST: usize = 40 + 65_535;
 
 /// The case of a seed and an index. The kind meant is `Kind::ALL[index % 6]`.
 pub fn case(seed: u64, index: u64) -> Case {
+    let (mut rng, scene) = scene(seed, index);
+    case_of(&mut rng, &scene, 35)
+}
+
+/// Another packet for the table of case `index`, which has zeros where no field stands.
+pub fn another(seed: u64, index: u64, packet: u64) -> Case {
+    let (mut rng, scene) = scene(seed, index);
+    let mut rng = Rng::for_case(rng.u64(), packet);
+    case_of(&mut rng, &scene, 0)
+}
+
+fn scene(seed: u64, index: u64) -> (Rng, tables::Scene) {
     let kind = Kind::ALL[(index % 6) as usize];
     let mut rng = Rng::for_case(seed, index);
-    let rng = &mut rng;
-    let mut notes = Vec::new();
+    let scene = tables::scene(&mut rng, kind);
+    (rng, scene)
+}
 
-    let scene = tables::scene(rng, kind);
-    let mut draft = packets::draft(rng, &scene);
+fn case_of(rng: &mut Rng, scene: &tables::Scene, percent_filled: usize) -> Case {
+    let kind = scene.kind;
+    let mut notes = Vec::new();
+    let mut draft = packets::draft(rng, scene);
     let mut table = scene.table.clone();
 
     // How many fields are damaged: mostly none or one, sometimes more, because
@@ -241,7 +256,7 @@ pub fn case(seed: u64, index: u64) -> Case {
         notes.push(damage::octets(rng, &mut assembled));
     }
     let mut table_octets = table.encode();
-    if rng.chance(35) {
+    if rng.chance(percent_filled) {
         tables::fill_unused(rng, &table, &mut table_octets);
         notes.push("unused table octets filled");
     }

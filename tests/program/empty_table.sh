@@ -1,9 +1,9 @@
 #!/usr/bin/env bash
-# run.sh PROGRAM: empty_table on packets of 39, 40, 65,536 and 65,537 octets. No octet past the first 65,536 is read.
+# empty_table.sh PROGRAM: empty_table on packets of 39, 40, 65,536 and 65,537 octets. No octet past the first 65,536 is read.
 set -eu
 
 if [ $# -ne 1 ]; then
-    echo "usage: run.sh PROGRAM" >&2
+    echo "usage: empty_table.sh PROGRAM" >&2
     exit 2
 fi
 program=$1

@@ -1,0 +1,108 @@
+//! What the program `worked` of the library reads, and the lines that it should
+//! print: the calls of the worked packets, then cases of a seed.
+
+use crate::answer::Answer;
+use crate::generate::{self, Call, Case};
+use crate::{vectors, worked};
+
+/// Standard input and output of the program.
+pub struct Run {
+    pub input: Vec<u8>,
+    pub output: String,
+    last_table: Vec<u8>,
+}
+
+/// What keeps the input small.
+const MAX_PACKET: usize = 400;
+const MAX_TABLE: usize = 500;
+const PACKETS_PER_TABLE: u64 = 64;
+
+/// Tables tried before the cases wanted are given up.
+const MAX_INDEX: u64 = 100_000;
+
+/// A table length that says: the table of the call before.
+const SAME_TABLE: u16 = 0xffff;
+
+impl Run {
+    fn new() -> Self {
+        Run {
+            input: Vec::new(),
+            output: String::new(),
+            last_table: Vec::new(),
+        }
+    }
+
+    /// A call in the input: name length (1 octet), IP version (1), table length
+    /// (2), packet length (4), room (4), then name, table and packet; table
+    /// length FFFF is the table of the call before. In the output: the name, the
+    /// answer's fields, the octets sent.
+    fn add(&mut self, name: &str, call: Call, packet: &[u8], table: &[u8], room: usize) {
+        let table_length = if self.last_table == table {
+            SAME_TABLE
+        } else {
+            table.len() as u16
+        };
+        let version = match call {
+            Call::Ipv6 => 6,
+            Call::Ipv4 => 4,
+        };
+        self.input.extend([name.len() as u8, version]);
+        self.input.extend(table_length.to_be_bytes());
+        self.input.extend((packet.len() as u32).to_be_bytes());
+        self.input.extend((room as u32).to_be_bytes());
+        self.input.extend(name.as_bytes());
+        if table_length != SAME_TABLE {
+            self.input.extend(table);
+            self.last_table = table.to_vec();
+        }
+        self.input.extend(packet);
+
+        let mut out = vec![0; room];
+        let answer = call.run(packet, table, &mut out);
+        let Answer {
+            number,
+            icmp_type,
+            icmp_code,
+            icmp_pointer,
+            length,
+        } = answer;
+        self.output.push_str(&format!(
+            "{name}: {number} {icmp_type} {icmp_code} {icmp_pointer} {length} "
+        ));
+        self.output.push_str(&vectors::hex(&out[..length as usize]));
+        self.output.push('\n');
+    }
+}
+
+/// The worked packets that are calls, but longer ones than `max_worked`, then
+/// `per_kind` cases of each kind.
+pub fn run(seed: u64, per_kind: u64, max_worked: usize) -> Result<Run, String> {
+    let mut run = Run::new();
+    for worked in worked::calls() {
+        if worked.packet.len() > max_worked {
+            continue;
+        }
+        run.add(
+            worked.words,
+            worked.call,
+            &worked.packet,
+            &worked.table,
+            worked.room,
+        );
+    }
+    for ((index, packet), case) in vectors::select_from(cases(seed), per_kind, MAX_PACKET)? {
+        let name = format!("{} {seed}:{index}:{packet}", case.kind.name());
+        run.add(&name, case.call, &case.packet, &case.table, case.room);
+    }
+    Ok(run)
+}
+
+/// Several packets for each table that is short enough, with index and packet number.
+fn cases(seed: u64) -> impl Iterator<Item = ((u64, u64), Case)> {
+    (0..MAX_INDEX)
+        .flat_map(move |index| {
+            (0..PACKETS_PER_TABLE)
+                .map(move |packet| ((index, packet), generate::another(seed, index, packet)))
+        })
+        .filter(|(_, case)| case.table.len() <= MAX_TABLE)
+}
