@@ -6,10 +6,12 @@
 //! - [`ipv6`], [`ipv4`], [`udp`], [`gtpu`], [`args`]: what is read;
 //! - [`outgoing`]: what is written;
 //! - [`answer`]: the answer numbers and the packed answer;
-//! - [`generate`], [`coverage`], [`vectors`], [`worked`], [`trips`]: cases and checks.
+//! - [`generate`], [`coverage`], [`vectors`], [`worked`], [`trips`]: cases and checks;
+//! - [`command`]: what the programs share.
 
 pub mod answer;
 pub mod args;
+pub mod command;
 pub mod coverage;
 pub mod generate;
 pub mod gtpu;
