@@ -1,7 +1,10 @@
 # Kawsarpa. `make` proves every crate; `make test` is the gate.
 
 .DELETE_ON_ERROR:
-.PHONY: all prove test toolchain tools format second library clean
+.PHONY: all prove test toolchain tools format second library boundary fuzz staticlib clean
+
+LIB = target/staticlib/libkawsarpa.a
+SECONDS = 60
 
 all: prove
 
@@ -10,7 +13,7 @@ prove: toolchain
 	rt check
 
 # Everything. The last command is `rt ci`, which proves all from nothing, tries the must-fail edits and says last what passed.
-test: toolchain tools format second library
+test: toolchain tools format second library boundary
 	rt ci
 
 # the proofs were checked with the toolchain that the file names
@@ -23,7 +26,7 @@ toolchain:
 # what the tests beside the proofs need: Debian's packages, where one is missing
 tools:
 	@missing=; \
-	for pair in gcc:gcc g++:g++ nm:binutils cargo:cargo; do \
+	for pair in gcc:gcc g++:g++ nm:binutils cargo:cargo valgrind:valgrind; do \
 	  command -v "$${pair%%:*}" >/dev/null || missing="$$missing $${pair#*:}"; \
 	done; \
 	if [ -n "$$missing" ]; then \
@@ -38,12 +41,23 @@ second:
 	cd tests/second && cargo test --release --offline --quiet && cargo run --release --offline --quiet -- worked
 
 # the header, the exported functions called from C, also with cases of the second program, and the program
-library: second
-	rt staticlib kawsarpa
+library: second staticlib
 	rt check empty_table
-	tests/c/run.sh target/staticlib/libkawsarpa.a
-	tests/c/vectors.sh target/staticlib/libkawsarpa.a tests/second/target/release/second
+	tests/c/run.sh $(LIB)
+	tests/c/vectors.sh $(LIB) tests/second/target/release/second
 	tests/program/run.sh target/bin/empty_table
 
+# the library judged by the second program: a million cases, trips, threads, stack, valgrind
+boundary: library
+	tests/boundary/run.sh $(LIB)
+
+# the same for SECONDS with new and mutated cases; without SEED, one that is printed
+fuzz: staticlib
+	KAWSARPA_LIB=$(CURDIR)/$(LIB) cargo build --release --offline --quiet --manifest-path tests/boundary/Cargo.toml
+	tests/boundary/target/release/boundary fuzz --seconds $(SECONDS) $(if $(SEED),--seed $(SEED))
+
+staticlib:
+	rt staticlib kawsarpa
+
 clean:
-	rm -rf target tests/second/target
+	rm -rf target tests/second/target tests/boundary/target
