@@ -11,8 +11,8 @@ pub fn exports(call: Call) -> &'static [Export] {
     }
 }
 
-/// An output that ends at an inaccessible page, with known octets before it as
-/// far as the inaccessible page at their front.
+/// An output that ends at inaccessible pages, with known octets before it as
+/// far as the inaccessible pages at their front.
 pub struct Output {
     /// Of several sizes: all octets are compared, and most outputs are short.
     pages: Vec<Pages>,
@@ -84,8 +84,8 @@ impl Bench {
         }
     }
 
-    /// Makes the call by each of its exports, with inputs that end at an
-    /// inaccessible page and with inputs that begin behind one. The answer and
+    /// Makes the call by each of its exports, with inputs that end at
+    /// inaccessible pages and with inputs that begin behind some. The answer and
     /// the octets are those of the first; [`Bench::fault`] has what differed.
     pub fn call(&mut self, call: Call, packet: &[u8], table: &[u8], out: &mut [u8]) -> u64 {
         let before = out.to_vec();
@@ -137,8 +137,8 @@ fn same(
 ) -> Result<(), String> {
     let name = export.name();
     let where_ = match side {
-        Side::End => "inputs before an inaccessible page",
-        Side::Start => "inputs behind an inaccessible page",
+        Side::End => "inputs before inaccessible pages",
+        Side::Start => "inputs behind inaccessible pages",
     };
     if packed != wanted {
         return Err(format!(

@@ -16,6 +16,7 @@ mod trips;
 use cases::Work;
 use place::Place;
 use second::command::{self, Failure, Options};
+use second::coverage::Coverage;
 use second::vectors;
 use std::io::{self, Write};
 use std::process::ExitCode;
@@ -83,8 +84,8 @@ const MUTATIONS: u64 = 7;
 const ANY_LENGTH: usize = 70_000;
 /// Cases that `stack` looks through at most, for each case wanted.
 const TRIES_PER_CASE: u64 = 20_000;
-/// What a call may use of the stack: a page, so that a caller with any usual
-/// stack need not think of it.
+/// What a call may use of the stack: a quarter of the smallest stack that a
+/// thread can have on Linux (PTHREAD_STACK_MIN, 16,384), so any thread can call.
 const STACK_BOUND: usize = 4096;
 
 fn help(out: &mut dyn Write, wanted: Option<&str>) -> io::Result<()> {
@@ -192,7 +193,7 @@ fn run_fuzz(options: &Options, out: &mut dyn Write) -> Result<(), Failure> {
         seed,
         threads,
         mutations: MUTATIONS,
-        end: u64::MAX - 1_000_000,
+        end: u64::MAX,
         deadline: Some(deadline),
     }
     .run();
@@ -292,6 +293,11 @@ fn run_stack(options: &Options, out: &mut dyn Write) -> Result<(), Failure> {
     let per_kind = count(options, "--per-kind", Some(300))?;
     let tries = per_kind.saturating_mul(TRIES_PER_CASE);
     let cases = vectors::select(seed, per_kind, ANY_LENGTH, tries).map_err(Failure::Check)?;
+    let mut coverage = Coverage::default();
+    for (_, case) in &cases {
+        coverage.add(case.kind, case.answer.number);
+    }
+    coverage.judge().map_err(Failure::Check)?;
     let deepest = stack::measure(seed, &cases).map_err(Failure::Check)?;
     for most in &deepest {
         writeln!(

@@ -120,7 +120,7 @@ impl Export {
         let answer: u64;
         // SAFETY: as in `call`. The pages end at a multiple of 16 as the ABI asks,
         // r12 keeps the old stack pointer because a callee preserves it, and a
-        // call that needs more stack than they have meets the page before them.
+        // call that needs more stack than they have meets the pages before them.
         unsafe {
             asm!(
                 "xchg rsp, r12",
@@ -143,25 +143,27 @@ impl Export {
 }
 
 const PAGE: usize = 4096;
+/// Inaccessible on either side: farther than two lengths of 16 bits reach.
+const GUARD: usize = 256 * PAGE;
 /// More octets than a packet, table or output of any case has.
 pub const MOST: usize = 128 * PAGE;
 
-/// Address space between two inaccessible pages. Never given back: pages are
-/// made once for each thread and used until the end.
+/// Address space between inaccessible pages. Never given back: pages are made
+/// once for each thread and used until the end.
 fn reserve(size: usize) -> *mut u8 {
     assert!(size.is_multiple_of(PAGE));
     // SAFETY: a new mapping at an address that the system chooses.
     let whole = unsafe {
         system::mmap(
             std::ptr::null_mut(),
-            size + 2 * PAGE,
+            size + 2 * GUARD,
             system::PROT_NONE,
             system::MAP_PRIVATE | system::MAP_ANONYMOUS,
             -1,
             0,
         )
     };
-    mapped(whole).wrapping_add(PAGE)
+    mapped(whole).wrapping_add(GUARD)
 }
 
 fn mapped(address: *mut u8) -> *mut u8 {
@@ -169,7 +171,7 @@ fn mapped(address: *mut u8) -> *mut u8 {
     address
 }
 
-/// Writable octets between two inaccessible pages.
+/// Writable octets between inaccessible pages.
 pub struct Pages {
     start: *mut u8,
     size: usize,
@@ -205,16 +207,16 @@ impl Pages {
     }
 }
 
-/// At which inaccessible page the octets lie.
+/// At which inaccessible pages octets lie.
 #[derive(Clone, Copy, Debug, PartialEq, Eq)]
 pub enum Side {
-    /// They end where it begins.
+    /// They end where those begin.
     End,
-    /// They begin where it ends.
+    /// They begin where those end.
     Start,
 }
 
-/// Octets that can be read only, beside an inaccessible page. They are changed
+/// Octets that can be read only, beside inaccessible pages. They are changed
 /// through a second view of the same memory, so no call can change them.
 pub struct Input {
     view: *const u8,

@@ -140,8 +140,9 @@ impl Trip {
         match &self.end {
             End::Arrives(wanted) if *wanted == current => Ok(Some(current)),
             End::Arrives(wanted) => {
-                let place = wanted.iter().zip(&current).position(|(a, b)| a != b);
-                Err(format!("what came out differs, first at {place:?}"))
+                let same = wanted.iter().zip(&current).take_while(|(a, b)| a == b);
+                let place = same.count();
+                Err(format!("what came out differs, first at octet {place}"))
             }
             End::Refused { stop, number } => {
                 Err(format!("arrived, but stop {stop} should answer {number}"))
