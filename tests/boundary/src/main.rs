@@ -260,7 +260,7 @@ fn run_trips(options: &Options, out: &mut dyn Write) -> Result<(), Failure> {
         out,
         "{tally}\nseed {seed}: {cases} trips and their second trips as they should be"
     )?;
-    let flow_5 = "flow 5 with the reflective bit";
+    let flow_5 = Place::Flow5;
     let arrived = trips::flow_5().map_err(|why| Failure::Check(format!("{flow_5}: {why}")))?;
     writeln!(
         out,

@@ -14,6 +14,9 @@ pub enum Place {
         seed: u64,
         index: u64,
     },
+    /// The trip by this name.
+    Flow5,
+    /// The table and packets that threads share.
     Shared {
         seed: u64,
         index: u64,
@@ -34,6 +37,7 @@ impl fmt::Display for Place {
                 mutation,
             } => write!(f, "seed {seed} index {index} mutation {mutation}"),
             Place::Trip { seed, index } => write!(f, "seed {seed} trip {index}"),
+            Place::Flow5 => write!(f, "flow 5 with the reflective bit"),
             Place::Shared { seed, index } => write!(f, "seed {seed} shared case {index}"),
         }
     }
@@ -65,6 +69,7 @@ impl fmt::Display for Command {
             Place::Trip { seed, index } => {
                 write!(f, "boundary trips --seed {seed} --first {index} --cases 1")
             }
+            Place::Flow5 => write!(f, "boundary trips --seed 1 --cases 1"),
             Place::Shared { seed, index } => write!(
                 f,
                 "boundary threads --seed {seed} --first {index} --cases 1"

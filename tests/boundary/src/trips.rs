@@ -39,6 +39,7 @@ pub fn run(seed: u64, indices: Range<u64>) -> Result<Tally, String> {
 /// "Flow 5 with the reflective bit", over 0 to 7 waypoints and both IP versions:
 /// what comes out is read here, octet by octet. The number of trips.
 pub fn flow_5() -> Result<usize, String> {
+    raw::runs(Place::Flow5);
     let mut bench = Bench::new();
     let mut arrived = 0;
     for family in Family::ALL {
