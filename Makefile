@@ -4,10 +4,11 @@ SHELL := bash
 .SHELLFLAGS := -eu -o pipefail -c
 .DELETE_ON_ERROR:
 .NOTPARALLEL:
-.PHONY: all prove test ci toolchain tools format second library programs clean
+.PHONY: all prove test ci toolchain tools format second staticlib library programs boundary fuzz clean
 
 archive := target/staticlib/libkawsarpa.a
 second := tests/second/target/release/second
+SECONDS = 60
 
 all: prove
 
@@ -16,7 +17,7 @@ prove: toolchain
 	rt check
 
 # Everything. The library is built from what `rt ci` proved, so that is first; its count of what passed is said again at the end.
-test: toolchain tools format second ci library programs
+test: toolchain tools format second ci library programs boundary
 	@tail -n 1 target/ci.log
 
 # every proof from nothing, and the must-fail edits; `rt ci` removes target/, so its output goes there afterwards
@@ -33,7 +34,7 @@ toolchain:
 # what the tests beside the proofs need: Debian's packages, where one is missing
 tools:
 	@missing=; \
-	for pair in gcc:gcc g++:g++ nm:binutils cargo:cargo; do \
+	for pair in gcc:gcc g++:g++ nm:binutils cargo:cargo valgrind:valgrind; do \
 	  command -v "$${pair%%:*}" >/dev/null || missing="$$missing $${pair#*:}"; \
 	done; \
 	if [ -n "$$missing" ]; then \
@@ -47,9 +48,11 @@ format:
 second:
 	cd tests/second && cargo test --release --offline --quiet && cargo run --release --offline --quiet -- worked
 
-# the header, and the exported functions called from C, also with cases of the second program
-library: second
+staticlib: toolchain
 	rt staticlib kawsarpa
+
+# the header, and the exported functions called from C, also with cases of the second program
+library: second staticlib
 	tests/c/run.sh $(archive)
 	tests/c/vectors.sh $(archive) $(second)
 
@@ -59,5 +62,14 @@ programs: second
 	tests/program/empty_table.sh target/bin/empty_table
 	tests/program/worked.sh $(second)
 
+# the library judged by the second program: a million cases, trips, threads, stack, valgrind
+boundary: staticlib
+	tests/boundary/run.sh $(archive)
+
+# the same for SECONDS with new and mutated cases; without SEED, one that is printed
+fuzz: staticlib
+	KAWSARPA_LIB=$(CURDIR)/$(archive) cargo build --release --offline --quiet --manifest-path tests/boundary/Cargo.toml
+	tests/boundary/target/release/boundary fuzz --seconds $(SECONDS) $(if $(SEED),--seed $(SEED))
+
 clean:
-	rm -rf target tests/second/target
+	rm -rf target tests/second/target tests/boundary/target

@@ -1,5 +1,7 @@
 //! Document 01, "Answer numbers", and the packed answer of the C interface.
 
+use std::fmt;
+
 /// ICMPv6 Time Exceeded (RFC 4443, 3.3).
 const TIME_EXCEEDED: u8 = 3;
 /// ICMPv6 Parameter Problem (RFC 4443, 3.4).
@@ -8,6 +10,27 @@ const PARAMETER_PROBLEM: u8 = 4;
 const SR_UPPER_LAYER_HEADER_ERROR: u8 = 4;
 /// Where Segments Left stands if the SRH follows the IPv6 header.
 const SEGMENTS_LEFT_OFFSET: u16 = 43;
+
+/// The answer numbers in words, those of `kawsarpa.h`.
+const NAMES: [&str; 17] = [
+    "sent",
+    "table not sound",
+    "malformed packet",
+    "bad IPv4 header",
+    "no match",
+    "bad header chain",
+    "hop limit exceeded",
+    "bad segments left",
+    "bad upper layer",
+    "bad UDP",
+    "bad GTP-U",
+    "not a G-PDU",
+    "bad extensions",
+    "bad container",
+    "bad inner packet",
+    "too long",
+    "no room",
+];
 
 /// One answer: number, ICMP type, code and pointer, length.
 #[derive(Clone, Copy, Debug, PartialEq, Eq, Default)]
@@ -44,6 +67,17 @@ impl Answer {
             icmp_pointer: (packed >> 24) as u16,
             length: (packed >> 40) as u32,
         }
+    }
+}
+
+impl fmt::Display for Answer {
+    fn fmt(&self, f: &mut fmt::Formatter<'_>) -> fmt::Result {
+        let name = NAMES.get(usize::from(self.number)).unwrap_or(&"unknown");
+        write!(
+            f,
+            "{} ({name}), ICMP {} {} {}, length {}",
+            self.number, self.icmp_type, self.icmp_code, self.icmp_pointer, self.length
+        )
     }
 }
 

@@ -2,6 +2,7 @@
 
 use crate::generate::{self, Kind};
 use std::fmt;
+use std::ops::AddAssign;
 
 pub const NUMBERS: usize = 17;
 
@@ -44,6 +45,31 @@ impl Coverage {
             }
         }
         findings
+    }
+
+    /// An error that names every finding.
+    pub fn judge(&self) -> Result<(), String> {
+        let findings = self.findings();
+        if findings.is_empty() {
+            return Ok(());
+        }
+        let mut why = format!(
+            "{} places of the table are not as they should be",
+            findings.len()
+        );
+        for finding in findings {
+            why.push_str(&format!("\n  {finding}"));
+        }
+        Err(why)
+    }
+}
+
+impl AddAssign<&Coverage> for Coverage {
+    fn add_assign(&mut self, other: &Coverage) {
+        let others = other.counts.iter().flatten();
+        for (count, more) in self.counts.iter_mut().flatten().zip(others) {
+            *count += more;
+        }
     }
 }
 
@@ -108,11 +134,13 @@ mod tests {
             }
         }
         assert_eq!(coverage.findings(), []);
+        assert_eq!(coverage.judge(), Ok(()));
         coverage.add(Kind::E6, 15);
         assert_eq!(coverage.findings(), [Finding::Stray(Kind::E6, 15)]);
         assert_eq!(
             Coverage::default().findings().len(),
             9 + 15 + 15 + 8 + 9 + 14
         );
+        assert!(Coverage::default().judge().is_err());
     }
 }

@@ -6,11 +6,13 @@
 //! - [`ipv6`], [`ipv4`], [`udp`], [`gtpu`], [`args`]: what is read;
 //! - [`outgoing`]: what is written;
 //! - [`answer`]: the answer numbers and the packed answer;
-//! - [`generate`], [`coverage`], [`vectors`], [`worked`], [`trips`],
-//!   [`program`]: cases and checks.
+//! - [`generate`], [`coverage`], [`vectors`], [`worked`], [`trips`], [`program`]: cases
+//!   and checks;
+//! - [`command`]: what the programs share.
 
 pub mod answer;
 pub mod args;
+pub mod command;
 pub mod coverage;
 pub mod generate;
 pub mod gtpu;

@@ -1,8 +1,8 @@
 //! The command `second`.
 
+use second::command::{self, Failure, Options};
 use second::{coverage, generate, program, trips, vectors, worked, Kind};
-use std::collections::HashMap;
-use std::io::{self, BufWriter, Write};
+use std::io::{self, Write};
 use std::process::ExitCode;
 
 const HELP: &str = "\
@@ -37,55 +37,7 @@ exit status: 0 all well, 1 a check failed or a gap was found, 2 wrong usage
 /// Cases looked through before `vectors` gives up, for each case wanted.
 const TRIES_PER_CASE: u64 = 20_000;
 
-enum Failure {
-    Usage(String),
-    Check(String),
-    Output(io::Error),
-}
-
-impl From<io::Error> for Failure {
-    fn from(error: io::Error) -> Self {
-        Failure::Output(error)
-    }
-}
-
-/// `--name value` pairs, each name known and given once.
-struct Options(HashMap<String, u64>);
-
-impl Options {
-    fn parse(words: &[String], known: &[&str]) -> Result<Self, Failure> {
-        let mut options = HashMap::new();
-        let mut words = words.iter();
-        while let Some(name) = words.next() {
-            if !known.contains(&name.as_str()) {
-                return Err(Failure::Usage(format!("unknown option {name}")));
-            }
-            let value = words
-                .next()
-                .ok_or_else(|| Failure::Usage(format!("{name} needs a number")))?;
-            let number = value
-                .parse()
-                .map_err(|_| Failure::Usage(format!("{name}: {value} is not a number")))?;
-            if options.insert(name.clone(), number).is_some() {
-                return Err(Failure::Usage(format!("{name} given twice")));
-            }
-        }
-        Ok(Options(options))
-    }
-
-    fn get(&self, name: &str) -> Result<u64, Failure> {
-        self.0
-            .get(name)
-            .copied()
-            .ok_or_else(|| Failure::Usage(format!("{name} is missing")))
-    }
-
-    fn get_or(&self, name: &str, default: u64) -> u64 {
-        self.0.get(name).copied().unwrap_or(default)
-    }
-}
-
-fn run(words: &[String], out: &mut impl Write) -> Result<(), Failure> {
+fn run(words: &[String], out: &mut dyn Write) -> Result<(), Failure> {
     let Some((command, rest)) = words.split_first() else {
         return Err(Failure::Usage("no command".to_string()));
     };
@@ -100,16 +52,7 @@ fn run(words: &[String], out: &mut impl Write) -> Result<(), Failure> {
             let (seed, cases) = (options.get("--seed")?, options.get("--cases")?);
             let coverage = coverage::collect(seed, cases).map_err(Failure::Check)?;
             writeln!(out, "{coverage}")?;
-            let findings = coverage.findings();
-            for finding in &findings {
-                writeln!(out, "{finding}")?;
-            }
-            if !findings.is_empty() {
-                return Err(Failure::Check(format!(
-                    "{} places of the table are not as they should be",
-                    findings.len()
-                )));
-            }
+            coverage.judge().map_err(Failure::Check)?;
             writeln!(out, "seed {seed}: {cases} cases, no gap")?;
         }
         "vectors" => {
@@ -197,24 +140,9 @@ fn run(words: &[String], out: &mut impl Write) -> Result<(), Failure> {
             let options = Options::parse(rest, &["--seed", "--cases"])?;
             let (seed, cases) = (options.get("--seed")?, options.get("--cases")?);
             let tally = trips::run(seed, cases).map_err(Failure::Check)?;
-            write!(out, "waypoints          ")?;
-            for waypoints in 0..tally.arrived[0].len() {
-                write!(out, " {waypoints:>6}")?;
-            }
-            for (name, family) in [("Di to E6", 0), ("D4 to E4", 1)] {
-                for (what, counts) in [
-                    ("arrived", tally.arrived[family]),
-                    ("refused", tally.ended_early[family]),
-                ] {
-                    write!(out, "\n{name}, {what}: ")?;
-                    for count in counts {
-                        write!(out, " {count:>6}")?;
-                    }
-                }
-            }
             writeln!(
                 out,
-                "\nseed {seed}: {cases} trips and their second trips as they should be"
+                "{tally}\nseed {seed}: {cases} trips and their second trips as they should be"
             )?;
         }
         other => return Err(Failure::Usage(format!("unknown command {other}"))),
@@ -223,26 +151,5 @@ fn run(words: &[String], out: &mut impl Write) -> Result<(), Failure> {
 }
 
 fn main() -> ExitCode {
-    let words: Vec<String> = std::env::args().skip(1).collect();
-    let mut out = BufWriter::new(io::stdout().lock());
-    let result = run(&words, &mut out).and_then(|()| out.flush().map_err(Failure::Output));
-    let _ = out.flush();
-    match result {
-        Ok(()) => ExitCode::SUCCESS,
-        Err(Failure::Usage(why)) => {
-            eprintln!("second: {why}; see second --help");
-            ExitCode::from(2)
-        }
-        Err(Failure::Check(why)) => {
-            eprintln!("second: {why}");
-            ExitCode::from(1)
-        }
-        Err(Failure::Output(error)) if error.kind() == io::ErrorKind::BrokenPipe => {
-            ExitCode::SUCCESS
-        }
-        Err(Failure::Output(error)) => {
-            eprintln!("second: cannot write: {error}");
-            ExitCode::from(1)
-        }
-    }
+    command::main("second", run)
 }

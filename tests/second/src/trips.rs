@@ -4,6 +4,8 @@
 //! What should come out is put together here from the values that went in, not
 //! by the code under test.
 
+pub mod fixed;
+
 use crate::answer::Answer;
 use crate::generate::packets::{self, Draft, IpDraft, Ipv4Draft, Ipv6Draft, SrhDraft, UpperDraft};
 use crate::generate::{tables, translate, Call};
@@ -12,6 +14,8 @@ use crate::table::{
     mask6, Behaviour, Direction, Entry, Ipv6Prefix, Policy, Session, SessionType, Table, MAX_SIDS,
     MAX_WAYPOINTS,
 };
+use std::fmt;
+use std::ops::Range;
 
 #[derive(Clone, Copy, Debug, PartialEq, Eq)]
 pub enum Family {
@@ -19,6 +23,17 @@ pub enum Family {
     Ipv6,
     /// D4 to E4.
     Ipv4,
+}
+
+impl Family {
+    pub const ALL: [Family; 2] = [Family::Ipv6, Family::Ipv4];
+
+    pub fn name(self) -> &'static str {
+        match self {
+            Family::Ipv6 => "Di to E6",
+            Family::Ipv4 => "D4 to E4",
+        }
+    }
 }
 
 /// One call of the trip.
@@ -107,7 +122,7 @@ impl Trip {
                 return if self.end == wanted {
                     Ok(None)
                 } else {
-                    Err(format!("stop {index}: answer {answer:?}"))
+                    Err(format!("stop {index}: answer {answer}"))
                 };
             }
             let length = answer.length as usize;
@@ -125,8 +140,9 @@ impl Trip {
         match &self.end {
             End::Arrives(wanted) if *wanted == current => Ok(Some(current)),
             End::Arrives(wanted) => {
-                let place = wanted.iter().zip(&current).position(|(a, b)| a != b);
-                Err(format!("what came out differs, first at {place:?}"))
+                let same = wanted.iter().zip(&current).take_while(|(a, b)| a == b);
+                let place = same.count();
+                Err(format!("what came out differs, first at octet {place}"))
             }
             End::Refused { stop, number } => {
                 Err(format!("arrived, but stop {stop} should answer {number}"))
@@ -519,22 +535,49 @@ pub struct Tally {
     pub ended_early: [[u64; MAX_WAYPOINTS + 1]; 2],
 }
 
+impl fmt::Display for Tally {
+    fn fmt(&self, f: &mut fmt::Formatter<'_>) -> fmt::Result {
+        write!(f, "waypoints          ")?;
+        for waypoints in 0..=MAX_WAYPOINTS {
+            write!(f, " {waypoints:>6}")?;
+        }
+        for family in Family::ALL {
+            for (what, counts) in [
+                ("arrived", self.arrived[family as usize]),
+                ("refused", self.ended_early[family as usize]),
+            ] {
+                write!(f, "\n{}, {what}: ", family.name())?;
+                for count in counts {
+                    write!(f, " {count:>6}")?;
+                }
+            }
+        }
+        Ok(())
+    }
+}
+
 /// Runs the first `cases` trips of a seed.
 pub fn run(seed: u64, cases: u64) -> Result<Tally, String> {
+    run_by(seed, 0..cases, |_, trip| trip.check())
+}
+
+/// Runs trips of a seed with a check of one's own, to the first that fails.
+pub fn run_by(
+    seed: u64,
+    indices: Range<u64>,
+    mut check: impl FnMut(u64, &Trip) -> Result<(), String>,
+) -> Result<Tally, String> {
     let mut tally = Tally::default();
-    for index in 0..cases {
+    for index in indices {
         let trip = trip(seed, index);
-        let (family, name) = match trip.family {
-            Family::Ipv6 => (0, "Di to E6"),
-            Family::Ipv4 => (1, "D4 to E4"),
-        };
-        let waypoints = trip.waypoints();
-        trip.check().map_err(|why| {
+        let (family, waypoints) = (trip.family, trip.waypoints());
+        check(index, &trip).map_err(|why| {
+            let name = family.name();
             format!("seed {seed} trip {index} ({name}, {waypoints} waypoints): {why}")
         })?;
         match trip.end {
-            End::Arrives(_) => tally.arrived[family][waypoints] += 1,
-            End::Refused { .. } => tally.ended_early[family][waypoints] += 1,
+            End::Arrives(_) => tally.arrived[family as usize][waypoints] += 1,
+            End::Refused { .. } => tally.ended_early[family as usize][waypoints] += 1,
         }
     }
     Ok(tally)

@@ -24,7 +24,7 @@ pub fn leaves_out_15(kind: Kind, max_packet: usize) -> bool {
 /// More room than any case has.
 const LARGEST_ROOM: usize = 1 << 24;
 
-/// Hexadecimal digits; no octets are `-`.
+/// Hexadecimal digits; `-` for no octets.
 pub fn hex(octets: &[u8]) -> String {
     if octets.is_empty() {
         return "-".to_string();

@@ -128,7 +128,9 @@ pub struct Case {
 }
 
 impl Case {
-    fn new(
+    /// A case of given octets. The kind is the one that the packet meets, and
+    /// the given one if it meets none.
+    pub fn new(
         kind: Kind,
         packet: Vec<u8>,
         table: Vec<u8>,
@@ -170,7 +172,7 @@ impl Case {
         let packed = run(self.call, &self.packet, &self.table, &mut out);
         let answer = Answer::unpack(packed);
         if answer != self.answer {
-            return Err(format!("answer {answer:?}, not {:?}", self.answer));
+            return Err(format!("answer {answer}, not {}", self.answer));
         }
         let (sent, rest) = out.split_at(self.sent.len());
         if let Some(at) = sent
@@ -183,8 +185,15 @@ impl Case {
                 sent[at], self.sent[at]
             ));
         }
-        if rest != &before[self.sent.len()..] {
-            return Err("an octet outside the packet sent was changed".to_string());
+        if let Some(past) = rest
+            .iter()
+            .zip(&before[self.sent.len()..])
+            .position(|(got, was)| got != was)
+        {
+            return Err(format!(
+                "octet {} of the output, past the packet sent, was changed",
+                self.sent.len() + past
+            ));
         }
         Ok(())
     }

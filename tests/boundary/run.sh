@@ -1,0 +1,41 @@
+#!/usr/bin/env bash
+# run.sh LIB: the library across its C boundary, judged by the second program, by itself and under valgrind.
+set -eu -o pipefail
+
+if [ $# -ne 1 ]; then
+    echo "usage: run.sh LIB" >&2
+    exit 2
+fi
+if [ ! -r "$1" ]; then
+    echo "run.sh: no such library: $1" >&2
+    exit 1
+fi
+lib=$(realpath "$1")
+here=$(cd "$(dirname "$0")" && pwd)
+work=$(mktemp -d)
+trap 'rm -rf "$work"' EXIT
+
+# The last lines on success, all of them on failure.
+step() { # WHAT LINES COMMAND...
+    local what=$1 lines=$2
+    shift 2
+    if ! "$@" >"$work/output"; then
+        cat "$work/output" >&2
+        echo "run.sh: $what failed: $*" >&2
+        exit 1
+    fi
+    tail -n "$lines" "$work/output" | sed "s/^/$what: /"
+}
+
+cd "$here"
+KAWSARPA_LIB=$lib cargo build --release --offline --quiet
+boundary=target/release/boundary
+memcheck=(valgrind --quiet --error-exitcode=9)
+
+step cases 1 "$boundary" cases --seed 1 --cases 1000000 --threads 2
+step trips 2 "$boundary" trips --seed 1 --cases 20000
+step threads 1 "$boundary" threads --seed 1 --cases 2000
+step stack 4 "$boundary" stack
+# seed 2 has every answer number among its first 8,100 cases
+step "cases under valgrind" 1 "${memcheck[@]}" "$boundary" cases --seed 2 --cases 10000 --threads 1
+step "trips under valgrind" 2 "${memcheck[@]}" "$boundary" trips --seed 2 --cases 200

@@ -1,0 +1,173 @@
+//! Cases through the library, by the number or for a time.
+
+use crate::bench::Bench;
+use crate::mutate;
+use crate::place::Place;
+use crate::progress::{Progress, INTERVAL};
+use crate::raw;
+use second::coverage::Coverage;
+use second::{generate, Answer, Case};
+use std::fmt;
+use std::sync::atomic::{AtomicU64, Ordering};
+use std::sync::mpsc::{self, RecvTimeoutError, Sender};
+use std::thread;
+use std::time::Instant;
+
+/// Differences that are shown; the others are counted.
+const SHOWN: u64 = 5;
+/// Indices that a thread takes at a time.
+const BLOCK: u64 = 64;
+
+pub struct Work {
+    pub command: &'static str,
+    pub seed: u64,
+    pub threads: u64,
+    /// Mutated cases beside each one that is generated.
+    pub mutations: u64,
+    /// The first index that is left out.
+    pub end: u64,
+    pub deadline: Option<Instant>,
+}
+
+pub struct Outcome {
+    pub cases: u64,
+    pub differences: u64,
+    /// Of what the library answered.
+    pub coverage: Coverage,
+    pub seconds: u64,
+}
+
+pub struct Difference {
+    place: Place,
+    case: Case,
+    pub found: Answer,
+    why: String,
+}
+
+impl fmt::Display for Difference {
+    fn fmt(&self, f: &mut fmt::Formatter<'_>) -> fmt::Result {
+        writeln!(
+            f,
+            "{} ({}): {}",
+            self.place,
+            self.case.kind.name(),
+            self.why
+        )?;
+        writeln!(f, "  expected: {}", self.case.answer)?;
+        writeln!(f, "  found:    {}", self.found)?;
+        write!(f, "  run again: {}", self.place.command())
+    }
+}
+
+/// What the library answers, and what is wrong with it.
+pub fn judge(bench: &mut Bench, place: Place, case: &Case) -> (Answer, Vec<u8>, Option<String>) {
+    raw::runs(place);
+    let (mut found, mut octets) = (Answer::default(), Vec::new());
+    let checked = case.check_by(|call, packet, table, out| {
+        let packed = bench.call(call, packet, table, out);
+        found = Answer::unpack(packed);
+        octets = out[..out.len().min(found.length as usize)].to_vec();
+        packed
+    });
+    (found, octets, checked.and(bench.fault()).err())
+}
+
+fn work(
+    work: &Work,
+    next: &AtomicU64,
+    done: &AtomicU64,
+    differences: Sender<Difference>,
+) -> Coverage {
+    let mut bench = Bench::new();
+    let mut coverage = Coverage::default();
+    let mut one = |place, case: Case| {
+        let (found, _, wrong) = judge(&mut bench, place, &case);
+        coverage.add(case.kind, found.number);
+        done.fetch_add(1, Ordering::Relaxed);
+        if let Some(why) = wrong {
+            // The receiver outlives the threads.
+            let _ = differences.send(Difference {
+                place,
+                case,
+                found,
+                why,
+            });
+        }
+    };
+    let seed = work.seed;
+    loop {
+        let first = next.fetch_add(BLOCK, Ordering::Relaxed);
+        for index in first..(first + BLOCK).min(work.end) {
+            let late = |deadline| Instant::now() >= deadline;
+            if work.deadline.is_some_and(late) {
+                return coverage;
+            }
+            let place = |mutation| Place::Case {
+                seed,
+                index,
+                mutation,
+            };
+            let case = generate::case(seed, index);
+            for mutation in 1..=work.mutations {
+                one(
+                    place(mutation),
+                    mutate::mutated(&case, seed, index, mutation),
+                );
+            }
+            one(place(0), case);
+        }
+        if first + BLOCK >= work.end {
+            return coverage;
+        }
+    }
+}
+
+impl Work {
+    pub fn run(&self) -> Outcome {
+        let (next, done) = (AtomicU64::new(0), AtomicU64::new(0));
+        let (sender, receiver) = mpsc::channel();
+        let mut progress = Progress::new();
+        let mut differences = 0;
+        let mut coverage = Coverage::default();
+        thread::scope(|scope| {
+            let threads: Vec<_> = (0..self.threads)
+                .map(|_| {
+                    let (sender, next, done) = (sender.clone(), &next, &done);
+                    scope.spawn(move || work(self, next, done, sender))
+                })
+                .collect();
+            drop(sender);
+            loop {
+                match receiver.recv_timeout(INTERVAL) {
+                    Ok(difference) => {
+                        differences += 1;
+                        if differences <= SHOWN {
+                            progress.note(difference);
+                        }
+                    }
+                    Err(RecvTimeoutError::Timeout) => {}
+                    Err(RecvTimeoutError::Disconnected) => break,
+                }
+                progress.say(|| {
+                    let done = done.load(Ordering::Relaxed);
+                    let (command, seed) = (self.command, self.seed);
+                    format!(
+                        "boundary {command}: seed {seed}, {done} cases, {differences} differences"
+                    )
+                });
+            }
+            for thread in threads {
+                match thread.join() {
+                    Ok(of_thread) => coverage += &of_thread,
+                    Err(panic) => std::panic::resume_unwind(panic),
+                }
+            }
+        });
+        Outcome {
+            cases: done.into_inner(),
+            differences,
+            coverage,
+            seconds: progress.seconds(),
+        }
+    }
+}

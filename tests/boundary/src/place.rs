@@ -1,0 +1,79 @@
+//! Where a difference was found, and the command that goes there again.
+
+use std::fmt;
+
+#[derive(Clone, Copy, Debug, PartialEq, Eq)]
+pub enum Place {
+    /// Mutation 0 is the case as it was generated.
+    Case {
+        seed: u64,
+        index: u64,
+        mutation: u64,
+    },
+    Trip {
+        seed: u64,
+        index: u64,
+    },
+    /// The trip by this name.
+    Flow5,
+    /// The table and packets that threads share.
+    Shared {
+        seed: u64,
+        index: u64,
+    },
+}
+
+impl fmt::Display for Place {
+    fn fmt(&self, f: &mut fmt::Formatter<'_>) -> fmt::Result {
+        match self {
+            Place::Case {
+                seed,
+                index,
+                mutation: 0,
+            } => write!(f, "seed {seed} index {index}"),
+            Place::Case {
+                seed,
+                index,
+                mutation,
+            } => write!(f, "seed {seed} index {index} mutation {mutation}"),
+            Place::Trip { seed, index } => write!(f, "seed {seed} trip {index}"),
+            Place::Flow5 => write!(f, "flow 5 with the reflective bit"),
+            Place::Shared { seed, index } => write!(f, "seed {seed} shared case {index}"),
+        }
+    }
+}
+
+impl Place {
+    pub fn command(self) -> Command {
+        Command(self)
+    }
+}
+
+/// Writes itself piece by piece: a fault is reported without allocating.
+pub struct Command(Place);
+
+impl fmt::Display for Command {
+    fn fmt(&self, f: &mut fmt::Formatter<'_>) -> fmt::Result {
+        match self.0 {
+            Place::Case {
+                seed,
+                index,
+                mutation,
+            } => {
+                write!(f, "boundary case --seed {seed} --index {index}")?;
+                match mutation {
+                    0 => Ok(()),
+                    _ => write!(f, " --mutation {mutation}"),
+                }
+            }
+            Place::Trip { seed, index } => {
+                write!(f, "boundary trips --seed {seed} --first {index} --cases 1")
+            }
+            Place::Flow5 => write!(f, "boundary trips --seed 1 --cases 1"),
+            Place::Shared { seed, index } => write!(
+                f,
+                "boundary threads --seed {seed} --first {index} --cases 1"
+            ),
+        }
+    }
+}

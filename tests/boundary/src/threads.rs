@@ -1,0 +1,145 @@
+//! Threads that share a table and packets, each with an output of its own.
+
+use crate::bench::exports;
+use crate::mutate;
+use crate::place::Place;
+use crate::progress::Progress;
+use crate::raw::{self, Input, Pages, Side, MOST};
+use second::{generate, Case};
+use std::ops::Range;
+use std::sync::atomic::{AtomicU64, Ordering};
+use std::sync::Barrier;
+use std::thread;
+
+/// Packets that meet one table: the case's own and mutated ones.
+const PACKETS: usize = 4;
+/// How often each thread calls with each packet at the least.
+const ROUNDS: usize = 200;
+
+/// Calls made, and those during which another thread was in one, as seen at
+/// their beginning and end.
+#[derive(Default)]
+pub struct Tally {
+    pub calls: u64,
+    pub overlapping: u64,
+}
+
+pub fn run(seed: u64, indices: Range<u64>, threads: u64) -> Result<Tally, String> {
+    let mut table = Input::new();
+    let mut packets: Vec<Input> = (0..PACKETS).map(|_| Input::new()).collect();
+    let mut outputs: Vec<Pages> = (0..threads).map(|_| Pages::new(MOST)).collect();
+    let mut progress = Progress::new();
+    let mut tally = Tally::default();
+    for index in indices {
+        progress.say(|| format!("boundary threads: seed {seed}, {index} shared cases"));
+        let case = generate::case(seed, index);
+        let mut cases: Vec<Case> = (1..PACKETS as u64)
+            .map(|mutation| mutate::other_packet(&case, seed, index, mutation))
+            .collect();
+        cases.push(case);
+        table.set(&cases[0].table, Side::End);
+        for (packet, case) in packets.iter_mut().zip(&cases) {
+            packet.set(&case.packet, Side::End);
+        }
+        let place = Place::Shared { seed, index };
+        let shared = Shared {
+            place,
+            cases: &cases,
+            packets: &packets,
+            table: &table,
+            start: Barrier::new(outputs.len()),
+            working: AtomicU64::new(threads),
+            inside: AtomicU64::new(0),
+        };
+        let results: Vec<_> = thread::scope(|scope| {
+            let running: Vec<_> = (0..)
+                .zip(&mut outputs)
+                .map(|(offset, output)| {
+                    let shared = &shared;
+                    scope.spawn(move || shared.work(offset, output))
+                })
+                .collect();
+            running.into_iter().map(|thread| thread.join()).collect()
+        });
+        for result in results {
+            match result {
+                Ok(of_thread) => {
+                    let of_thread = of_thread?;
+                    tally.calls += of_thread.calls;
+                    tally.overlapping += of_thread.overlapping;
+                }
+                Err(panic) => std::panic::resume_unwind(panic),
+            }
+        }
+    }
+    Ok(tally)
+}
+
+struct Shared<'a> {
+    place: Place,
+    cases: &'a [Case],
+    packets: &'a [Input],
+    table: &'a Input,
+    start: Barrier,
+    /// Threads that have rounds to do.
+    working: AtomicU64,
+    /// Threads that are in a call.
+    inside: AtomicU64,
+}
+
+impl Shared<'_> {
+    /// Goes on until every thread has done its rounds, so that none is alone.
+    fn work(&self, offset: usize, output: &mut Pages) -> Result<Tally, String> {
+        raw::runs(self.place);
+        self.start.wait();
+        let mut tally = Tally::default();
+        for round in 1.. {
+            let done = self.round(offset + round, output, &mut tally);
+            if round == ROUNDS || done.is_err() {
+                self.working.fetch_sub(1, Ordering::Relaxed);
+            }
+            done?;
+            if round >= ROUNDS {
+                if self.working.load(Ordering::Relaxed) == 0 {
+                    break;
+                }
+                thread::yield_now();
+            }
+        }
+        Ok(tally)
+    }
+
+    /// A call with each packet. Each thread begins at another, so that they meet
+    /// on the same packet and on different ones.
+    fn round(&self, from: usize, output: &mut Pages, tally: &mut Tally) -> Result<(), String> {
+        for step in from..from + self.cases.len() {
+            let number = step % self.cases.len();
+            let case = &self.cases[number];
+            let of_call = exports(case.call);
+            let export = of_call[(step / self.cases.len()) % of_call.len()];
+            let mut others = 0;
+            let checked = case.check_by(|_, _, _, out| {
+                let own = &mut output.octets()[MOST - out.len()..];
+                own.copy_from_slice(out);
+                let (packet, table) = (self.packets[number].octets(), self.table.octets());
+                others += self.inside.fetch_add(1, Ordering::Relaxed);
+                let packed = export.call(packet, table, own);
+                others += self.inside.fetch_sub(1, Ordering::Relaxed) - 1;
+                out.copy_from_slice(own);
+                packed
+            });
+            checked.map_err(|why| {
+                let place = self.place;
+                format!(
+                    "{place}, packet {number} of {}, {}: {why}\n  run again: {}",
+                    self.cases.len(),
+                    export.name(),
+                    place.command()
+                )
+            })?;
+            tally.calls += 1;
+            tally.overlapping += u64::from(others > 0);
+        }
+        Ok(())
+    }
+}
