@@ -1,7 +1,7 @@
 # Kawsarpa. `make` proves every crate; `make test` is the gate.
 
 .DELETE_ON_ERROR:
-.PHONY: all prove test toolchain tools format second library clean
+.PHONY: all prove test toolchain tools format second library peers clean
 
 all: prove
 
@@ -44,6 +44,11 @@ library: second
 	tests/c/run.sh target/staticlib/libkawsarpa.a
 	tests/c/vectors.sh target/staticlib/libkawsarpa.a tests/second/target/release/second
 	tests/program/run.sh target/bin/empty_table
+
+# tshark and the kernel's SRv6 judge what the library sends. Run as root; what is missing of Debian's packages is installed.
+peers: toolchain tools
+	rt staticlib kawsarpa
+	tests/peers/run.sh target/staticlib/libkawsarpa.a
 
 clean:
 	rm -rf target tests/second/target
