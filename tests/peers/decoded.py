@@ -54,7 +54,7 @@ def self_test(library: Library, work: Path) -> str:
         sent = send(library, case)
         spoiled += [judge.Sent(sent.name, packet, sent.pairs, sent.tail, sent.how) for packet in damaged(sent.packet)]
     seen: set[str] = set()
-    for sent, shown in zip(spoiled, decode([sent.packet for sent in spoiled], work), strict=True):
+    for sent, shown in zip(spoiled, decode([sent.frame() for sent in spoiled], work), strict=True):
         names = judge.compare(sent, shown)
         if not names:
             raise RuntimeError(f"self-test: a damaged packet of {sent.name} passes for a good one: {sent.packet.hex()}")
@@ -62,7 +62,7 @@ def self_test(library: Library, work: Path) -> str:
     blind = [name for name in FIELDS + [judge.TAIL] if name not in seen]
     if blind:
         raise RuntimeError(f"self-test: no damage makes these differ: {', '.join(blind)}")
-    return f"{len(spoiled)} damaged packets, all noticed; {len(seen)} things compared, each seen to differ"
+    return f"self-test: {len(spoiled)} damaged packets, all noticed; {len(seen)} things compared, each seen to differ"
 
 
 def run(library: Library, work: Path, count: judge.Count) -> str:

@@ -111,4 +111,5 @@ def accepted(library: Library, chain: network.Network, walk: Walk) -> Iterator[S
 def run(library: Library, chain: network.Network, count: Count) -> tuple[list[Sent], str]:
     walk = Walk(library, chain, count)
     all_sent = list(accepted(library, chain, walk))
+    count.waypoints += walk.hops
     return all_sent, f"{len(all_sent)} packets of the kernel's headend taken, {walk.hops} waypoints passed"

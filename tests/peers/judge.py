@@ -7,6 +7,7 @@ import decode
 import expect
 
 SHOWN = 5  # differences that are printed
+WIDTH = 200  # characters of a field that are printed
 TAIL = "the last octets"
 
 
@@ -18,6 +19,9 @@ class Sent:
     pairs: expect.Pairs
     tail: bytes
     how: str
+
+    def frame(self) -> bytes:
+        return decode.frame(self.packet, self.pairs)
 
 
 def compare(sent: Sent, shown: dict[str, str]) -> list[str]:
@@ -31,7 +35,7 @@ def report(sent: Sent, shown: dict[str, str], names: list[str]) -> None:
     print(f"difference: {sent.name}: {', '.join(names)}")
     for name in names:
         if name != TAIL:
-            print(f"  {name}: expected '{expected[name]}', tshark shows '{shown[name]}'")
+            print(f"  {name}: expected '{expected[name][:WIDTH]}', tshark shows '{shown[name][:WIDTH]}'")
     print(f"  sent {sent.packet.hex()}\n  {sent.how}")
 
 
@@ -39,12 +43,14 @@ def report(sent: Sent, shown: dict[str, str], names: list[str]) -> None:
 class Count:
     packets: int = 0
     fields: int = 0
+    waypoints: int = 0
+    refusals: int = 0
     differences: int = 0
 
 
 def judge(all_sent: list[Sent], work: Path, count: Count) -> None:
     """Decodes and compares; prints the first differences and counts all."""
-    for sent, shown in zip(all_sent, decode.decode([sent.packet for sent in all_sent], work), strict=True):
+    for sent, shown in zip(all_sent, decode.decode([sent.frame() for sent in all_sent], work), strict=True):
         names = compare(sent, shown)
         count.packets += 1
         count.fields += len(sent.pairs)

@@ -60,7 +60,7 @@ def refusals(draw: Draw) -> list[Refusal]:
 
 def run(library: Library, chain: network.Network, count: Count) -> str:
     draw = Draw(SEED)
-    headend, cases = Headend(chain, draw), refusals(draw)
+    headend, cases, before = Headend(chain, draw), refusals(draw), count.differences
     for case in cases:
         headend.send(case.mode, case.shape, headend.route(case.mode, case.shape, case.path, draw.ipv6()))
         arrived = chain.receive(network.LINKS[0], case.path[0])
@@ -69,4 +69,5 @@ def run(library: Library, chain: network.Network, count: Count) -> str:
             count.differences += 1
             print(f"difference: {case.what}: expected {case.answer}, the library answers {tuple(answer)}")
             print(f"  call: ipv6 {arrived.hex()} {case.table.hex()}")
-    return f"{len(cases)} packets of the kernel's headend refused as they must be"
+    count.refusals += len(cases)
+    return f"{len(cases) - (count.differences - before)} of {len(cases)} packets of the kernel's headend refused as they must be"

@@ -107,4 +107,5 @@ def make(library: Library, chain: network.Network, walk: Walk, trip: Trip) -> li
 def run(library: Library, chain: network.Network, count: Count) -> tuple[list[Sent], str]:
     walk = Walk(library, chain, count)
     all_sent = [sent for trip in sweep() for sent in make(library, chain, walk, trip)]
+    count.waypoints += walk.hops
     return all_sent, f"{len(all_sent) // 2} trips, {walk.hops} waypoints passed"
