@@ -4,7 +4,7 @@ SHELL := bash
 .SHELLFLAGS := -eu -o pipefail -c
 .DELETE_ON_ERROR:
 .NOTPARALLEL:
-.PHONY: all prove test ci toolchain tools format second staticlib library programs boundary fuzz clean
+.PHONY: all prove test ci toolchain tools format second staticlib library programs boundary fuzz peers clean
 
 archive := target/staticlib/libkawsarpa.a
 second := tests/second/target/release/second
@@ -70,6 +70,10 @@ boundary: staticlib
 fuzz: staticlib
 	KAWSARPA_LIB=$(CURDIR)/$(archive) cargo build --release --offline --quiet --manifest-path tests/boundary/Cargo.toml
 	tests/boundary/target/release/boundary fuzz --seconds $(SECONDS) $(if $(SEED),--seed $(SEED))
+
+# tshark and the kernel's SRv6 judge what the library sends. Run as root; what is missing of Debian's packages is installed.
+peers: tools staticlib
+	tests/peers/run.sh $(archive)
 
 clean:
 	rm -rf target tests/second/target tests/boundary/target

@@ -1,0 +1,63 @@
+/* Makes calls through the library. A line in: `ipv6|ipv4|waypoint packet-hex table-hex`. A line out: `number icmp_type icmp_code
+   icmp_pointer out-hex`, where `-` is an empty output. Status 1: a line that is not one. */
+#include "kawsarpa.h"
+
+#include <stdio.h>
+#include <stdlib.h>
+#include <string.h>
+
+enum { MOST = 1 << 17 };
+
+static char line[5 * MOST];
+static uint8_t packet[MOST], table[MOST], out[MOST];
+
+/* The octets of a hexadecimal field, and how many; -1 for what is none. */
+static long octets(const char *field, uint8_t *into)
+{
+    const size_t n = strlen(field) / 2;
+    if (strlen(field) % 2 != 0 || n > MOST)
+        return -1;
+    for (size_t i = 0; i < n; i++) {
+        const char pair[3] = {field[2 * i], field[2 * i + 1], 0};
+        char *end;
+        into[i] = (uint8_t)strtoul(pair, &end, 16);
+        if (*end != 0)
+            return -1;
+    }
+    return (long)n;
+}
+
+/* 0 where the call is not one of the three. */
+static int make_call(const char *call, size_t packet_len, size_t table_len, uint64_t *answer)
+{
+    if (strcmp(call, "ipv6") == 0)
+        *answer = kawsarpa_call_ipv6(packet, packet_len, table, table_len, out, sizeof out);
+    else if (strcmp(call, "ipv4") == 0)
+        *answer = kawsarpa_call_ipv4(packet, packet_len, table, table_len, out, sizeof out);
+    else if (strcmp(call, "waypoint") == 0)
+        *answer = kawsarpa_call_waypoint(packet, packet_len, table, table_len, out, sizeof out);
+    else
+        return 0;
+    return 1;
+}
+
+int main(void)
+{
+    while (fgets(line, sizeof line, stdin) != NULL) {
+        const char *call = strtok(line, " \n"), *packet_hex = strtok(NULL, " \n"), *table_hex = strtok(NULL, " \n");
+        const long packet_len = packet_hex ? octets(packet_hex, packet) : -1;
+        const long table_len = table_hex ? octets(table_hex, table) : -1;
+        uint64_t answer;
+        if (packet_len < 0 || table_len < 0 || !make_call(call, (size_t)packet_len, (size_t)table_len, &answer)) {
+            fprintf(stderr, "call: not a line of a call, a packet and a table\n");
+            return 1;
+        }
+        printf("%u %u %u %u ", (unsigned)kawsarpa_answer_number(answer), (unsigned)kawsarpa_answer_icmp_type(answer),
+               (unsigned)kawsarpa_answer_icmp_code(answer), (unsigned)kawsarpa_answer_icmp_pointer(answer));
+        for (size_t i = 0; i < kawsarpa_answer_length(answer); i++)
+            printf("%02x", out[i]);
+        puts(kawsarpa_answer_length(answer) == 0 ? "-" : "");
+        fflush(stdout);
+    }
+    return 0;
+}

@@ -1,0 +1,50 @@
+#!/usr/bin/env bash
+# run.sh LIB: tshark and the kernel's SRv6 judge what the library writes. Never skips: where it cannot run, it fails.
+set -eu
+
+LIMIT=300 # seconds
+
+if [ $# -ne 1 ]; then
+    echo "usage: run.sh LIB" >&2
+    exit 2
+fi
+lib=$1
+here=$(cd "$(dirname "$0")" && pwd)
+prefix=kawsarpa-$$- # of the names of all namespaces that are made
+work=
+tests=
+
+fail() {
+    echo "peers: $1" >&2
+    exit 1
+}
+
+# shellcheck disable=SC2317 # a trap calls it
+clean() {
+    if [ -n "$tests" ]; then
+        kill "$tests" 2>/dev/null || true
+        wait "$tests" 2>/dev/null || true
+    fi
+    ip netns list 2>/dev/null | sed -n "s/^\(${prefix}[^ ]*\).*/\1/p" | while read -r namespace; do
+        ip netns delete "$namespace"
+    done
+    [ -z "$work" ] || rm -rf "$work"
+}
+trap clean EXIT
+trap 'fail "stopped by a signal"' INT TERM HUP
+
+[ -r "$lib" ] || fail "no such library: $lib"
+command -v gcc >/dev/null || fail "gcc is missing"
+reason=$("$here/can-run.sh") || fail "cannot run: $reason"
+
+work=$(mktemp -d)
+gcc -std=c99 -O2 -Werror -Wall -Wextra -Wpedantic -Wconversion -I "$here/../../include" -o "$work/call" "$here/call.c" "$lib"
+
+# in the background, so that a signal is heeded at once
+timeout "$LIMIT" /usr/bin/python3 -B "$here/peers.py" "$work/call" "$work" "$prefix" &
+tests=$!
+status=0
+wait "$tests" || status=$?
+tests=
+[ "$status" -ne 124 ] || fail "not done after $LIMIT s"
+exit "$status"
