@@ -1,5 +1,7 @@
 //! Document 01, "Answer numbers", and the packed answer of the C interface.
 
+use std::fmt;
+
 /// ICMPv6 Time Exceeded (RFC 4443, 3.3).
 const TIME_EXCEEDED: u8 = 3;
 /// ICMPv6 Parameter Problem (RFC 4443, 3.4).
@@ -44,6 +46,21 @@ impl Answer {
             icmp_pointer: (packed >> 24) as u16,
             length: (packed >> 40) as u32,
         }
+    }
+}
+
+/// `0, length 164`; `5`; `8, ICMP 4 4 40` with type, code and pointer.
+impl fmt::Display for Answer {
+    fn fmt(&self, f: &mut fmt::Formatter) -> fmt::Result {
+        write!(f, "{}", self.number)?;
+        let icmp = (self.icmp_type, self.icmp_code, self.icmp_pointer);
+        if icmp != (0, 0, 0) {
+            write!(f, ", ICMP {} {} {}", icmp.0, icmp.1, icmp.2)?;
+        }
+        if self.number == 0 || self.length != 0 {
+            write!(f, ", length {}", self.length)?;
+        }
+        Ok(())
     }
 }
 
@@ -142,6 +159,15 @@ mod tests {
         let sent = Answer::sent(65_575);
         assert_eq!(sent.pack(), 65_575 << 40);
         assert_eq!(Answer::unpack(sent.pack()), sent);
+    }
+
+    #[test]
+    fn shows_what_is_not_0() {
+        assert_eq!(Answer::sent(0).to_string(), "0, length 0");
+        assert_eq!(Refusal::NotGtpu.answer().to_string(), "8");
+        assert_eq!(Refusal::HopLimit.answer().to_string(), "6, ICMP 3 0 0");
+        let upper = Refusal::UpperLayer { offset: 40 };
+        assert_eq!(upper.answer().to_string(), "8, ICMP 4 4 40");
     }
 
     #[test]
