@@ -1,7 +1,7 @@
 # Kawsarpa. `make` proves every crate; `make test` is the gate.
 
 .DELETE_ON_ERROR:
-.PHONY: all prove test toolchain tools format second library clean
+.PHONY: all prove test toolchain tools format second library mutants clean
 
 all: prove
 
@@ -44,6 +44,10 @@ library: second
 	tests/c/run.sh target/staticlib/libkawsarpa.a
 	tests/c/vectors.sh target/staticlib/libkawsarpa.a tests/second/target/release/second
 	tests/program/run.sh target/bin/empty_table
+
+# each rule of the second program changed in one place: the library's answers must show every change
+mutants: toolchain tools library
+	tests/mutants/run.sh target/staticlib/libkawsarpa.a
 
 clean:
 	rm -rf target tests/second/target
