@@ -4,7 +4,7 @@ SHELL := bash
 .SHELLFLAGS := -eu -o pipefail -c
 .DELETE_ON_ERROR:
 .NOTPARALLEL:
-.PHONY: all prove test ci toolchain tools format second staticlib library programs boundary fuzz peers clean
+.PHONY: all prove test ci toolchain tools format second staticlib library programs boundary fuzz mutants peers clean
 
 archive := target/staticlib/libkawsarpa.a
 second := tests/second/target/release/second
@@ -74,6 +74,10 @@ fuzz: staticlib
 # tshark and the kernel's SRv6 judge what the library sends. Run as root; what is missing of Debian's packages is installed.
 peers: tools staticlib
 	tests/peers/run.sh $(archive)
+
+# each rule of the second program changed in one place: the library's answers must show every change
+mutants: tools staticlib
+	tests/mutants/run.sh $(archive)
 
 clean:
 	rm -rf target tests/second/target tests/boundary/target

@@ -14,4 +14,5 @@ trap 'rm -rf "$work"' EXIT
 
 gcc -std=c99 -O2 -Werror -Wall -Wextra -Wpedantic -Wconversion -I "$here/../../include" -o "$work/vectors" "$here/vectors.c" "$lib"
 "$second" vectors --seed 1 --per-kind 2000 | "$work/vectors"
+"$second" vectors --seed 5 --per-kind 600 --max-packet 2500 | "$work/vectors"
 "$second" vectors --seed 7 --per-kind 200 --max-packet 65600 | "$work/vectors"

@@ -70,14 +70,19 @@ impl Answer {
     }
 }
 
+/// `0 (sent), length 164`; `8 (bad upper layer), ICMP 4 4 40` with type, code and pointer.
 impl fmt::Display for Answer {
-    fn fmt(&self, f: &mut fmt::Formatter<'_>) -> fmt::Result {
+    fn fmt(&self, f: &mut fmt::Formatter) -> fmt::Result {
         let name = NAMES.get(usize::from(self.number)).unwrap_or(&"unknown");
-        write!(
-            f,
-            "{} ({name}), ICMP {} {} {}, length {}",
-            self.number, self.icmp_type, self.icmp_code, self.icmp_pointer, self.length
-        )
+        write!(f, "{} ({name})", self.number)?;
+        let icmp = (self.icmp_type, self.icmp_code, self.icmp_pointer);
+        if icmp != (0, 0, 0) {
+            write!(f, ", ICMP {} {} {}", icmp.0, icmp.1, icmp.2)?;
+        }
+        if self.number == 0 || self.length != 0 {
+            write!(f, ", length {}", self.length)?;
+        }
+        Ok(())
     }
 }
 
@@ -176,6 +181,21 @@ mod tests {
         let sent = Answer::sent(65_575);
         assert_eq!(sent.pack(), 65_575 << 40);
         assert_eq!(Answer::unpack(sent.pack()), sent);
+    }
+
+    #[test]
+    fn shows_what_is_not_0() {
+        assert_eq!(Answer::sent(0).to_string(), "0 (sent), length 0");
+        assert_eq!(Refusal::NotGtpu.answer().to_string(), "8 (bad upper layer)");
+        assert_eq!(
+            Refusal::HopLimit.answer().to_string(),
+            "6 (hop limit exceeded), ICMP 3 0 0"
+        );
+        let upper = Refusal::UpperLayer { offset: 40 };
+        assert_eq!(
+            upper.answer().to_string(),
+            "8 (bad upper layer), ICMP 4 4 40"
+        );
     }
 
     #[test]

@@ -96,17 +96,24 @@ fn run(words: &[String], out: &mut dyn Write) -> Result<(), Failure> {
         }
         "check" => {
             Options::parse(rest, &[])?;
-            let mut checked = 0;
+            let (mut checked, mut differing, mut first) = (0, 0, None);
             for (number, line) in (1..).zip(io::stdin().lines()) {
                 let line = line?;
                 if line.is_empty() || line.starts_with('#') {
                     continue;
                 }
-                let fail = |why| Failure::Check(format!("line {number}: {why}"));
-                vectors::parse(&line)
-                    .and_then(|case| case.check())
-                    .map_err(fail)?;
+                let case = vectors::parse(&line)
+                    .map_err(|why| Failure::Check(format!("line {number}: {why}")))?;
                 checked += 1;
+                if let Err(why) = case.check() {
+                    differing += 1;
+                    first.get_or_insert(format!("line {number}, {}: {why}", case.kind.name()));
+                }
+            }
+            if let Some(first) = first {
+                return Err(Failure::Check(format!(
+                    "{first} ({differing} of {checked} lines differ)"
+                )));
             }
             writeln!(out, "{checked} lines as they should be")?;
         }

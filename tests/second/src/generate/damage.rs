@@ -311,13 +311,13 @@ fn other_extension(rng: &mut Rng) -> Extension {
 /// Changes octets of a packet that is put together.
 pub fn octets(rng: &mut Rng, packet: &mut Assembled) -> &'static str {
     loop {
-        let note = match rng.below(12) {
+        let note = match rng.below(14) {
             0..=1 => ip_field(rng, packet),
             2 => srh_field(rng, packet),
             3..=5 => upper_field(rng, packet),
             6..=8 => cut(rng, packet),
             9 => append(rng, packet),
-            10 => checksum(rng, packet),
+            10..=12 => checksum(rng, packet),
             _ => any_octet(rng, packet),
         };
         if let Some(note) = note {
@@ -496,25 +496,20 @@ fn checksum(rng: &mut Rng, packet: &mut Assembled) -> Option<&'static str> {
         return None;
     }
     let right = packet.get16(10);
-    Some(match rng.below(6) {
+    Some(match rng.below(7) {
         0 => {
             packet.set16(10, (right ^ 1 << rng.below(16)).into());
             "checksum with one bit wrong"
         }
         1 => {
-            packet.set16(
-                10,
-                rng.pick(&[
-                    right.wrapping_add(1),
-                    right.wrapping_sub(1),
-                    !right,
-                    right.swap_bytes(),
-                    0,
-                    0xffff,
-                ])
-                .into(),
-            );
+            let wrong = rng.pick(&[!right, right.swap_bytes(), 0, 0xffff]);
+            packet.set16(10, wrong.into());
             "checksum wrong"
+        }
+        6 => {
+            let wrong = right.wrapping_add(rng.pick(&[1, 0xffff]));
+            packet.set16(10, wrong.into());
+            "checksum one off"
         }
         2 => {
             let at = rng.below(20);

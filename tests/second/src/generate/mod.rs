@@ -172,7 +172,7 @@ impl Case {
         let packed = run(self.call, &self.packet, &self.table, &mut out);
         let answer = Answer::unpack(packed);
         if answer != self.answer {
-            return Err(format!("answer {answer}, not {}", self.answer));
+            return Err(format!("answer {answer}; expected {}", self.answer));
         }
         let (sent, rest) = out.split_at(self.sent.len());
         if let Some(at) = sent
@@ -181,7 +181,7 @@ impl Case {
             .position(|(got, wanted)| got != wanted)
         {
             return Err(format!(
-                "octet {at} sent is {:02x}, not {:02x}",
+                "octet {at} sent is {:02x}; expected {:02x}",
                 sent[at], self.sent[at]
             ));
         }

@@ -456,6 +456,8 @@ pub fn srh(rng: &mut Rng, least: usize, most: usize) -> SrhDraft {
     let count = match rng.below(25) {
         // The upper layer then begins past offset 255.
         0 => rng.between(13, 20),
+        // Segments Left and Last Entry may then be past 63.
+        1 => rng.between(60, 120),
         _ => rng.between(least, most.min(usual).max(least)),
     };
     let tlvs = if rng.chance(30) {
@@ -544,10 +546,10 @@ pub fn set_nibble(rng: &mut Rng, inner: &mut Vec<u8>) {
     inner[0] = rng.pick(&[0x40, 0x60]) | inner[0] & 0x0f;
 }
 
-/// One packet in a hundred gets an inner packet around `limit`, the longest
+/// Three packets in a hundred get an inner packet around `limit`, the longest
 /// that can be sent, or as long as the length field allows.
 fn grow(rng: &mut Rng, draft: &mut Draft, limit: usize) {
-    if !rng.chance(1) {
+    if !rng.chance(3) {
         return;
     }
     let most = 65_535 + if draft.v6().is_some() { 40 } else { 0 } - draft.overhead();
