@@ -27,16 +27,12 @@ window-at : (p : List ℕ) (at n : ℕ) → window p at n ≡ window (drop at p)
 window-at p at n = ap (λ (k : ℕ). window p k n) (sym (add-zero at)) ∙ sym (window-drop p at 0 n)
 
 -- from what the readers say
-pub datagram-read : (p f : List ℕ) (at n place t : ℕ) → f ≡ window p at 24 → n ≡ length p - at → place ≡ at + (19 + 4 * octet f 20) → t ≡ octet p place
-    → datagramOf f n t ≡ datagram (drop at p)
+pub datagram-read : (p f : List ℕ) (at n t : ℕ) → f ≡ window p at 24 → n ≡ length p - at → t ≡ Gtpu.followingType (drop at p) → datagramOf f n t ≡ datagram (drop at p)
 unfolding datagram window
-datagram-read p f at n place t hf hn hp ht =
+datagram-read p f at n t hf hn ht =
     let e : f ≡ window (drop at p) 0 24 = hf ∙ window-at p at 24 in
-    let units : ℕ = octet (drop at p) 20 in
     let size : n ≡ length (drop at p) = hn ∙ sym (length-drop at p) in
-    let last : place ≡ at + (19 + 4 * units) = hp ∙ ap (λ (s : List ℕ). at + (19 + 4 * octet s 20)) e in
-    let type : t ≡ octet (drop at p) (19 + 4 * units) = ht ∙ ap (octet p) last ∙ sym (getD-drop at p (19 + 4 * units) 0) in
-    λ i. datagramOf (e i) (size i) (type i)
+    λ i. datagramOf (e i) (size i) (ht i)
 
 abbrev argsOf : List ℕ → Args
 argsOf u = record { qfi = Gtpu.qfi u; reflective = Gtpu.reflective u; teid = Gtpu.teid u }

@@ -12,6 +12,8 @@ ghost use Rattle.rules.specs.declared.Verdict.the-variants.{Refuse};
 ghost use Rattle.octets.specs.Run.{Run};
 ghost use Rattle.args.specs.Value.{value};
 
+mod extension; // extension.rt: extension headers, read by a reader that stands on the packet
+
 const UDP: u8 = 17;
 
 const UDP_SIZE: usize = 8;
@@ -80,12 +82,24 @@ pub fn datagram_of(front: [u8; 24], size: usize, following: u8) -> rules::Datagr
     }
 }
 
-// The last octet of an extension says what follows it.
-fn following_at(at: usize, units: u8) -> usize
-    requires { ⌜ at < 65536 ⌝ }
-    ensures { λ r. ⌜ r ≡ at + (19 + 4 * units) ⌝ }
+// A place of a packet, or the packet's end where that comes first.
+fn within(packet: &[u8], at: usize) -> usize
+    ensures { λ r. ⌜ (r ≤ length (now (packet .entry))) × (drop r (now (packet .entry)) ≡ drop at (now (packet .entry))) ⌝ }
 {
-    at + extension_end(units) - 1
+    if packet.len() < at {
+        return packet.len();
+    }
+    at
+}
+
+// The type behind the first extension of a datagram that begins at octet `at` of a packet: the GTP-U message is a part of the packet.
+fn following_type(packet: &[u8], at: usize) -> u8
+    requires { ⌜ at < 65536 ⌝ }
+    ensures { λ r. ⌜ r ≡ Gtpu.followingType (drop at (now (packet .entry))) ⌝ }
+{
+    let start = within(packet, at + UDP_SIZE);
+    let gtp = &packet[start..];
+    octets::octet_or_0(gtp, extension::behind(extension::first(gtp)))
 }
 
 // The datagram that begins at octet `at` of a packet.
@@ -95,7 +109,7 @@ pub fn datagram_at(packet: &[u8], at: usize) -> rules::Datagram
 {
     let front = octets::window24(packet, at);
     let size = octets::less(packet.len(), at);
-    let following = octets::octet_or_0(packet, following_at(at, front[EXTENSION_AT]));
+    let following = following_type(packet, at);
     datagram_of(front, size, following)
 }
 
