@@ -32,8 +32,8 @@ KAWSARPA_LIB=$lib cargo build --release --offline --quiet
 boundary=target/release/boundary
 memcheck=(valgrind --quiet --error-exitcode=9)
 
-step cases 1 "$boundary" cases --seed 1 --cases 1000000 --threads 2
-step trips 2 "$boundary" trips --seed 1 --cases 20000
+step cases 19 "$boundary" cases --seed 1 --cases 1000000 --threads 2
+step trips 7 "$boundary" trips --seed 1 --cases 20000
 step threads 1 "$boundary" threads --seed 1 --cases 2000
 step stack 4 "$boundary" stack
 # seed 2 has every answer number among its first 8,100 cases

@@ -11,33 +11,33 @@ use lib.ListN.{length, drop, List·getD-eq-default}
 use lib.Seq.{getD-drop}
 use Rattle.rules.specs.Octets.{octet}
 use Rattle.rules.specs.Gtpu as Gtpu
-use Rattle.gtpu.specs.Extension.{firstPlace, nextPlace, badUnits, extensionAt, behindOf}
+use Rattle.gtpu.specs.Extension.{firstPlace, nextPlace, badUnits, extensionAfter, behindOf}
 use Rattle.gtpu.specs.declared.extension.Extension.{Extension}
 use Rattle.gtpu.specs.declared.extension.Extension.the-variants.{End, Header, Refused}
 
 -- past the end nothing follows
-pub past-end : (g : List ℕ) (at : ℕ) → length g ≤ at → End at ≡ extensionAt g at
-unfolding extensionAt
+pub past-end : (g : List ℕ) (at : ℕ) → length g ≤ at → End at ≡ extensionAfter g at
+unfolding extensionAfter
 past-end g at h =
     let kind : octet g at ≡ 0 = List·getD-eq-default g 0 h in
     let units : octet g (at + 1) ≡ 0 = List·getD-eq-default g 0 (omega (arith, h)) in
     rw kind (rw units (ap End (sym (add-zero at))))
 
 -- by the unit count u, as its readers say it
-pub end-at : (g : List ℕ) (at u n : ℕ) → u ≡ octet g (at + 1) → n ≡ u → octet g at ≡ 0 → End (at + 4 * n) ≡ extensionAt g at
-unfolding extensionAt
+pub end-at : (g : List ℕ) (at u n : ℕ) → u ≡ octet g (at + 1) → n ≡ u → octet g at ≡ 0 → End (at + 4 * n) ≡ extensionAfter g at
+unfolding extensionAfter
 end-at g at u n eu en kind = rw kind (ap (λ (k : ℕ). End (at + 4 * k)) (en ∙ eu))
 
-pub no-units : (g : List ℕ) (at u n : ℕ) → u ≡ octet g (at + 1) → n ≡ u → (octet g at ≡ 0 → ⊥) → u ≡ 0 → Refused (octet g at) (at + 4 * n) ≡ extensionAt g at
-unfolding extensionAt
+pub no-units : (g : List ℕ) (at u n : ℕ) → u ≡ octet g (at + 1) → n ≡ u → (octet g at ≡ 0 → ⊥) → u ≡ 0 → Refused (octet g at) (at + 4 * n) ≡ extensionAfter g at
+unfolding extensionAfter
 no-units g at u n eu en some none =
     let kind : eqb (octet g at) 0 ≡ false = ne-eqb (octet g at) 0 some in
     let units : eqb (octet g (at + 1)) 0 ≡ true = eq-eqb (octet g (at + 1)) 0 (sym eu ∙ none) in
     rw kind (rw units (ap (λ (k : ℕ). Refused (octet g at) (at + 4 * k)) (en ∙ eu)))
 
 pub past-units : (g : List ℕ) (at u n : ℕ) → u ≡ octet g (at + 1) → n ≡ u → (octet g at ≡ 0 → ⊥) → (u ≡ 0 → ⊥) → length g ≤ at + 4 * n
-    → Refused (octet g at) (at + 4 * n) ≡ extensionAt g at
-unfolding extensionAt
+    → Refused (octet g at) (at + 4 * n) ≡ extensionAfter g at
+unfolding extensionAfter
 past-units g at u n eu en some more past =
     let kind : eqb (octet g at) 0 ≡ false = ne-eqb (octet g at) 0 some in
     let units : eqb (octet g (at + 1)) 0 ≡ false = ne-eqb (octet g (at + 1)) 0 (λ e. more (eu ∙ e)) in
@@ -45,8 +45,8 @@ past-units g at u n eu en some more past =
     rw kind (rw units (rw end (ap (λ (k : ℕ). Refused (octet g at) (at + 4 * k)) (en ∙ eu))))
 
 pub header-at : (g : List ℕ) (at u n : ℕ) → u ≡ octet g (at + 1) → n ≡ u → (octet g at ≡ 0 → ⊥) → (u ≡ 0 → ⊥) → at + 4 * n < length g
-    → Header (octet g at) (at + 2) (at + 4 * n) ≡ extensionAt g at
-unfolding extensionAt
+    → Header (octet g at) (at + 2) (at + 4 * n) ≡ extensionAfter g at
+unfolding extensionAfter
 header-at g at u n eu en some more within =
     let kind : eqb (octet g at) 0 ≡ false = ne-eqb (octet g at) 0 some in
     let units : eqb (octet g (at + 1)) 0 ≡ false = ne-eqb (octet g (at + 1)) 0 (λ e. more (eu ∙ e)) in
@@ -54,8 +54,8 @@ header-at g at u n eu en some more within =
     rw kind (rw units (rw end (ap (λ (k : ℕ). Header (octet g at) (at + 2) (at + 4 * k)) (en ∙ eu))))
 
 -- the place behind, whatever follows
-pub behind-at : (g : List ℕ) (at : ℕ) → behindOf (extensionAt g at) ≡ nextPlace g at
-unfolding extensionAt behindOf
+pub behind-at : (g : List ℕ) (at : ℕ) → behindOf (extensionAfter g at) ≡ nextPlace g at
+unfolding extensionAfter behindOf
 behind-at g at = go (eqb (octet g at) 0) (badUnits g at)
   where
     go : (a b : Bool) → behindOf (cond a (End (nextPlace g at)) (cond b (Refused (octet g at) (nextPlace g at)) (Header (octet g at) (at + 2) (nextPlace g at)))) ≡ nextPlace g at
@@ -70,7 +70,7 @@ octet-from : (p : List ℕ) (n m i j : ℕ) → n + i ≡ m + j → octet (drop 
 octet-from p n m i j e = getD-drop n p i 0 ∙ ap (octet p) e ∙ sym (getD-drop m p j 0)
 
 -- of a datagram at a place of a packet, by its GTP-U message g
-pub following-read : (p g : List ℕ) (at place t : ℕ) (e : Extension) → g ≡ drop (at + 8) p → e ≡ extensionAt g firstPlace → place ≡ behindOf e → t ≡ octet g place
+pub following-read : (p g : List ℕ) (at place t : ℕ) (e : Extension) → g ≡ drop (at + 8) p → e ≡ extensionAfter g firstPlace → place ≡ behindOf e → t ≡ octet g place
     → t ≡ Gtpu.followingType (drop at p)
 following-read p g at place t e hg he hp ht =
     let m : List ℕ = drop (at + 8) p in

@@ -26,8 +26,8 @@ nextPlace g at = at + 4 * unitsAt g at
 abbrev pub badUnits : List ℕ → ℕ → Bool
 badUnits g at = eqb (unitsAt g at) 0 || leb (length g) (nextPlace g at)
 
-unfoldable pub extensionAt : List ℕ → ℕ → Extension
-extensionAt g at =
+unfoldable pub extensionAfter : List ℕ → ℕ → Extension
+extensionAfter g at =
     cond (eqb (typeAt g at) 0) (End (nextPlace g at))
     (cond (badUnits g at) (Refused (typeAt g at) (nextPlace g at)) (Header (typeAt g at) (at + 2) (nextPlace g at)))
 

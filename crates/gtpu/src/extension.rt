@@ -3,7 +3,7 @@
 // A place is that of an octet which says what type of header follows. The second octet behind it begins that header's contents, and the
 // last octet of the header is the next place.
 ghost use mathlib.Core.Path.{_≡_};
-ghost use Rattle.gtpu.specs.Extension.{extensionAt, behindOf, firstPlace};
+ghost use Rattle.gtpu.specs.Extension.{extensionAfter, behindOf, firstPlace};
 
 // The octet of a GTP-U message that says the type of its first extension header.
 const FIRST_PLACE: usize = 11;
@@ -25,8 +25,8 @@ pub struct ExtensionReader<'a> {
 }
 
 // What follows a place of a slice. The reader's work is done here, where no function holds a reference in a struct.
-fn extension_at(gtp: &[u8], at: usize) -> Extension
-    ensures { λ r. ⌜ r ≡ extensionAt (now (gtp .entry)) at ⌝ }
+fn extension_after(gtp: &[u8], at: usize) -> Extension
+    ensures { λ r. ⌜ r ≡ extensionAfter (now (gtp .entry)) at ⌝ }
 {
     if gtp.len() <= at {
         return Extension::End(at);
@@ -56,14 +56,14 @@ fn new<'a>(gtp: &'a [u8]) -> ExtensionReader<'a>
 }
 
 fn step<'a>(r: ExtensionReader<'a>) -> Extension
-    ensures { λ e. ⌜ e ≡ extensionAt (now (r .entry .gtp)) (r .entry .at) ⌝ }
+    ensures { λ e. ⌜ e ≡ extensionAfter (now (r .entry .gtp)) (r .entry .at) ⌝ }
 {
-    extension_at(r.gtp, r.at)
+    extension_after(r.gtp, r.at)
 }
 
 // The first extension header of a GTP-U message, with plain parameters.
 pub fn first(gtp: &[u8]) -> Extension
-    ensures { λ e. ⌜ e ≡ extensionAt (now (gtp .entry)) firstPlace ⌝ }
+    ensures { λ e. ⌜ e ≡ extensionAfter (now (gtp .entry)) firstPlace ⌝ }
 {
     step(new(gtp))
 }

@@ -36,7 +36,7 @@ use denote.Triple.Table.{entered, cited}
 use denote.Triple.Walked.{says, Stays, stay-none-slice, walkOf, goes-none-slice, Walks, ends-at, walked, walk-meets}
 use denote.Exit.{yes}
 use denote.Triple.Clauses.{ensured, lasts}
-use Rattle.gtpu.specs.Extension.{extensionAt, firstPlace}
+use Rattle.gtpu.specs.Extension.{extensionAfter, firstPlace}
 use Rattle.gtpu.specs.declared.extension.ExtensionReader.{ExtensionReader}
 use Rattle.gtpu.specs.declared.extension.Extension.{Extension}
 use Rattle.gtpu.proofs.extension.ExtensionReader as T
@@ -77,7 +77,7 @@ module _ {M : Type 1} (𝓤 : URA M) (H : Heap 𝓤) (A : Atoms 𝓤) (W : Given
   v = sliceVal (s .ptr) (length (s .now))
 
   abbrev found : Extension
-  found = extensionAt (now s) firstPlace
+  found = extensionAfter (now s) firstPlace
 
   -- the same as a local has it: MIR erases the lifetime's name there
   abbrev αᵉ : NamedLft
@@ -109,8 +109,8 @@ module _ {M : Type 1} (𝓤 : URA M) (H : Heap 𝓤) (A : Atoms 𝓤) (W : Given
   goes-step : (r : ExtensionReader) (u : Val) → ent 𝓤 (⋆ 𝓤 H A (‵ (B (κ, tt) .own r (u ∷ [])) ∷ (‵ (flft κ q) ⊛ ‵ ftrue) ∷ [])) (Step 𝓤 H A mem run .pre (to-step r u))
   goes-step r u = qed W (‵ (B (κ, tt) .own r (u ∷ [])) ∷ (‵ (flft κ q) ⊛ ‵ ftrue) ∷ []) ∵ nothing ! $ move ! (1 ∷ 0 ∷ []) $ fjoin ! $ move ! (1 ∷ 0 ∷ []) $ join ! $ frame ! $ done !
 
-  step-said : (r : ExtensionReader) (t : Extension) → ent 𝓤 (ensured 𝓤 H A step.ended (step.clauses 𝓤 H A mem run) (κ, tt) (r, tt) tt t) (fact 𝓤 (t ≡ extensionAt (now (r .gtp)) (r .at)))
-  step-said r t = exE 𝓤 _ (λ ws. snd∗ 𝓤 (sem 𝓤 H A (lasts step.ended (κ, tt) (r, tt) ws)) (fact 𝓤 (t ≡ extensionAt (now (r .gtp)) (r .at))))
+  step-said : (r : ExtensionReader) (t : Extension) → ent 𝓤 (ensured 𝓤 H A step.ended (step.clauses 𝓤 H A mem run) (κ, tt) (r, tt) tt t) (fact 𝓤 (t ≡ extensionAfter (now (r .gtp)) (r .at)))
+  step-said r t = exE 𝓤 _ (λ ws. snd∗ 𝓤 (sem 𝓤 H A (lasts step.ended (κ, tt) (r, tt) ws)) (fact 𝓤 (t ≡ extensionAfter (now (r .gtp)) (r .at))))
 
   exits : (t : Extension) (u : Val) → t ≡ found → ent 𝓤 (⋆ 𝓤 H A (‵ (S.the-row .own t (u ∷ [])) ∷ (‵ (flft κ q) ⊛ ‵ ftrue) ∷ ‵ Own ∷ [])) (Post u)
   exits t u e =
@@ -133,12 +133,12 @@ module _ {M : Type 1} (𝓤 : URA M) (H : Heap 𝓤) (A : Atoms 𝓤) (W : Given
         use2 W (raw (Step 𝓤 H A mem run .pre (to-step r u))) (goes-step r u) $
         calls-at ! fm (Step 𝓤 H A mem run) known-step (to-step r u) (and-then ! (load ! (from ! (stop !)) (look ! 2 refl)) (no-more !)) (λ u′.
         use1 W (later (some (λ (t : Extension). ((‵ (flft κ q) ⊛ ‵ ftrue) ⊛ ‵ (S.the-row .own t (u′ ∷ []))) ⊛ raw (ensured 𝓤 H A step.ended (step.clauses 𝓤 H A mem run) (κ, tt) (r, tt) tt t)))) (id⊢ 𝓤 _) $ await ! tt $ pick ! (λ t.
-        split ! $ move ! (1 ∷ []) $ use1 W (raw (fact 𝓤 (t ≡ extensionAt (now (r .gtp)) (r .at)))) (step-said r t) $ heard ! (t ≡ extensionAt (now (r .gtp)) (r .at)) (λ e′. split ! $ move ! (1 ∷ []) $
+        split ! $ move ! (1 ∷ []) $ use1 W (raw (fact 𝓤 (t ≡ extensionAfter (now (r .gtp)) (r .at)))) (step-said r t) $ heard ! (t ≡ extensionAfter (now (r .gtp)) (r .at)) (λ e′. split ! $ move ! (1 ∷ []) $
         -- [the result; the token; what s owns; _2; …; _1; …; room for _0; …]
         peeks ! S.the-row (Is S.the-row) (shows 𝓤 H A S.the-row) t (u′ ∷ []) (λ is′.
         land ! (from ! (stop !)) (init ! 7 refl (EL.lawful S.the-type S′.the-laws 𝓤 H A W tt .typed t _ is′ .0)) $
         returns ! (look ! 7 refl) $ forget ! 3 refl $ forget ! 5 refl $ forget ! 7 refl $ move ! (7 ∷ 8 ∷ []) $ free1 ! $ move ! (5 ∷ 6 ∷ []) $ free1 ! $ move ! (3 ∷ 4 ∷ []) $ free1 ! $ free0 ! $
-        by ! (exits t u′ (e′ ∙ (ap (λ (x : RefT (List ℕ)). extensionAt (now x) (r .at)) (e .0) ∙ ap (extensionAt (now s)) (e .1)))))))))))))))
+        by ! (exits t u′ (e′ ∙ (ap (λ (x : RefT (List ℕ)). extensionAfter (now x) (r .at)) (e .0) ∙ ap (extensionAfter (now s)) (e .1)))))))))))))))
 
 module _ {M : Type 1} (𝓤 : URA M) (H : Heap 𝓤) (A : Atoms 𝓤) (W : Given 𝓤 H A) (mem : Memory → SProp 𝓤) (run : Routine → Fun 𝓤) where
   first-walks : (C : Calls 𝓤 H) (Λ : Loops 𝓤 H) → FmC 𝓤 H (W .laws) C → Triple 𝓤 (C #new) (New 𝓤 H A mem run) → Triple 𝓤 (C #step) (Step 𝓤 H A mem run)

@@ -1,10 +1,10 @@
--- `extension_at`: each `return` is the case of the tests that led to it.
+-- `extension_after`: each `return` is the case of the tests that led to it.
 use native.Mathlib.Omega.{arith}
 use borrow.Author.Needs.{needs}
 use denote.Ref.{now}
 use Rattle.gtpu.proofs.Extensions.{past-end, end-at, no-units, past-units, header-at}
-use Rattle.gtpu.proofs.extension.extension_at.Statement.{statement}
-use Rattle.gtpu.proofs.extension.extension_at.Tie as tie
+use Rattle.gtpu.proofs.extension.extension_after.Statement.{statement}
+use Rattle.gtpu.proofs.extension.extension_after.Tie as tie
 
 returns : tie.Need-returns
 returns c = past-end (now (c .before .before .args .gtp)) (c .before .before .args .at) (omega (arith, c .if1 .taken))
@@ -42,8 +42,8 @@ add-t6 c = search needs
 returns-5 : tie.Need-returns-5
 returns-5 c = header-at (now (c .before .before .before .before .before .before .before .before .args .gtp)) (c .before .before .before .before .before .before .before .before .args .at) (c .before .before .before .before .octet-or-0 .result) (c .before .before .before .wide .result) (c .before .before .before .before .octet-or-0 .ensures) (c .before .before .before .wide .ensures .0) (c .before .before .if2 .left) (c .before .if3 .left) (omega (arith, c .if4 .left))
 
-pub extension-at-spec : {M : Type 1} → statement M
-extension-at-spec =
+pub extension-after-spec : {M : Type 1} → statement M
+extension-after-spec =
     tie.close
     (tie.spec
     returns
