@@ -1,5 +1,5 @@
-//! A second implementation of the gateway rules, written from document 01
-//! and RFC 9433 alone.
+//! A second implementation of the gateway rules, written from document 01,
+//! RFC 9433, the layout of the table octets and the C interface.
 //!
 //! - [`translate`]: the two calls, [`translate_ipv6`] and [`translate_ipv4`];
 //! - [`table`]: the table octets and what makes a table sound;

@@ -6,7 +6,7 @@ use std::io::{self, Write};
 use std::process::ExitCode;
 
 const HELP: &str = "\
-second - the gateway rules a second time, written from document 01 and RFC 9433 alone
+second - the gateway rules a second time, written from the papers and not from the library
 
 usage:
   second coverage --seed N --cases M
