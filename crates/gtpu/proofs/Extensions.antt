@@ -1,13 +1,13 @@
--- The extension header that follows a place, by the tests that lead to it; the place behind it; and the type that stands there.
+-- The extension header that follows a place, by the tests that lead to it; the place behind it; the type that stands there; and row 12.
 use mathlib.Core.Path.{_≡_, refl, sym, ap, _∙_}
 use mathlib.Core.Bool.{Bool, true, false, cond, _||_}
 use mathlib.Core.List.{List}
-use Prim.Native.Nat.{ℕ, _+_, _*_, _≤_, _<_}
+use Prim.Native.Nat.{ℕ, _+_, _-_, _*_, _≤_, _<_}
 use native.Mathlib.Nat.{add-zero}
 use native.Mathlib.Omega.{arith}
-use borrow.Author.Tests.{le-leb, lt-leb, eq-eqb, ne-eqb}
-use lib.Dec.{eqb, leb}
-use lib.ListN.{length, drop, List·getD-eq-default}
+use borrow.Author.Tests.{leb-true, leb-false, lt-ltb, le-ltb, le-leb, lt-leb, eq-eqb, ne-eqb}
+use lib.Dec.{eqb, leb, ltb}
+use lib.ListN.{length, drop, length-drop, List·getD-eq-default}
 use lib.Seq.{getD-drop}
 use Rattle.rules.specs.Octets.{octet}
 use Rattle.rules.specs.Gtpu as Gtpu
@@ -80,3 +80,24 @@ following-read p g at place t e hg he hp ht =
     ∙ ap (λ (x : List ℕ). octet x (11 + 4 * octet x 12)) hg
     ∙ ap (λ (u : ℕ). octet m (11 + 4 * u)) units
     ∙ octet-from p (at + 8) at (11 + 4 * octet (drop at p) 20) (19 + 4 * octet (drop at p) 20) (omega arith)
+
+-- ROW 12
+
+-- two tests that hold together
+same-test : (a b c d : ℕ) → (a ≤ b → c < d) → (b < a → d ≤ c) → leb a b ≡ ltb c d
+same-test a b c d holds fails = go (leb a b) refl
+  where
+    go : (r : Bool) → leb a b ≡ r → r ≡ ltb c d
+    go true e = sym (lt-ltb c d (holds (leb-true a b e)))
+    go false e = sym (le-ltb c d (fails (leb-false a b e)))
+
+-- what the reader refuses is what row 12 asks of a unit count, once row 10 has passed a datagram with E
+pub refused-row-12 : (u : List ℕ) → 20 ≤ length u
+    → badUnits (drop 8 u) firstPlace ≡ (eqb (Gtpu.extensionUnits u) 0 || ltb (length u) (20 + 4 * Gtpu.extensionUnits u))
+refused-row-12 u h =
+    let k : ℕ = Gtpu.extensionUnits u in
+    let units : octet (drop 8 u) 12 ≡ k = getD-drop 8 u 12 0 in
+    let size : length (drop 8 u) ≡ length u - 8 = length-drop 8 u in
+    ap (λ (x : ℕ). eqb x 0 || leb (length (drop 8 u)) (11 + 4 * x)) units
+    ∙ ap (λ (n : ℕ). eqb k 0 || leb n (11 + 4 * k)) size
+    ∙ ap (λ (r : Bool). eqb k 0 || r) (same-test (length u - 8) (11 + 4 * k) (length u) (20 + 4 * k) (λ e. omega (arith, h, e)) (λ e. omega (arith, h, e)))
