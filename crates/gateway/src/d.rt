@@ -3,6 +3,8 @@ use crate::answer::Answer;
 use crate::path;
 use crate::session;
 use crate::tunnel;
+use table::entry;
+use table::policy;
 ghost use mathlib.Core.Path.{_≡_};
 ghost use mathlib.Core.List.{List, [], _∷_, _++_};
 ghost use Prim.Native.Nat.{ℕ, _+_, _-_, _*_, _≤_, _<_};
@@ -29,7 +31,7 @@ pub fn first_sid(y: &[u8], n: usize, sid: [u8; 16]) -> [u8; 16]
     if n == 1 {
         return sid;
     }
-    octets::window16(y, 16)
+    octets::window16(y, policy::SIDS)
 }
 
 // The headers before the inner packet: those of D.
@@ -47,8 +49,17 @@ fn put_head(
     ensures { λ _. ⌜ Run (now (out .entry)) 0 (48 + 16 * n) (pathHead class upper (Entry.hopLimit (now (e .entry))) (Entry.source (now (e .entry))) (getD (addressesAt (now (y .entry)) 16 (n - 1) ++ sid ∷ []) 0 []) n size (sid ∷ []) (addressesAt (now (y .entry)) 16 (n - 1))) (now (out .exit)) ⌝ }
 {
     let first = first_sid(y, n, sid);
-    let source = octets::window16(e, 32);
-    path::put_front(out, class, upper, e[2], source, first, n, size);
+    let source = octets::window16(e, entry::SOURCE);
+    path::put_front(
+        out,
+        class,
+        upper,
+        e[entry::HOP_LIMIT],
+        source,
+        first,
+        n,
+        size,
+    );
     octets::copy_to(out, 48, &sid);
     srh::put_reversed(out, 64, y, 16, n - 1);
 }
@@ -71,9 +82,9 @@ fn send(
     if out.len() < 48 + 16 * n + size {
         return Answer::plain(16);
     }
-    let upper = session::inner_next(e[4], octets::octet_or_0(packet, place));
+    let upper = session::inner_next(e[entry::SESSION], octets::octet_or_0(packet, place));
     let last = octets::window16(y, 16 * n);
-    let sid = args.in_sid(last, y[1]);
+    let sid = args.in_sid(last, y[policy::START]);
     put_head(e, y, n, class, upper, sid, size, out);
     octets::copy_part(out, 48 + 16 * n, packet, place);
     Answer::sent(48 + 16 * n + size)
@@ -84,7 +95,7 @@ pub fn at_d(e: &[u8], y: &[u8], h: rules::Header, packet: &[u8], out: &mut [u8])
     requires { ⌜ (length (now e) ≡ 64) × (length (now y) ≡ 288) × (1 ≤ Policy.sidCount (now y)) × (Policy.sidCount (now y) ≤ 8) × (Policy.start (now y) ≤ 88) × Sight (now packet) h ⌝ }
     ensures { λ r. ⌜ Answered (settle (length (now (out .entry))) (atD (now (e .entry)) (now (y .entry)) (now (packet .entry)))) (now (out .entry)) r (now (out .exit)) ⌝ }
 {
-    let n = octets::wide(y[0]);
+    let n = octets::wide(y[policy::SID_COUNT]);
     let at = h.upperAt as usize;
     let g = gtpu::datagram_at(packet, at);
     let place = at + gtpu::inner_at(g);

@@ -2,6 +2,7 @@
 use crate::answer::Answer;
 use crate::path;
 use crate::session;
+use table::rule;
 ghost use mathlib.Core.Path.{_≡_};
 ghost use mathlib.Core.Bool.{cond};
 ghost use mathlib.Core.List.{List, [], _∷_, _++_};
@@ -53,8 +54,8 @@ fn judge(
     requires { ⌜ length (now r) ≡ 160 ⌝ }
     ensures { λ v. ⌜ v ≡ verdict (gtp4Rows h g ++ (messageRows g ++ (gPduRows (Rule.direction (now (r .entry))) g ++ innerRows (Rule.session (now (r .entry))) size first field))) ⌝ }
 {
-    let inner = gtpu::judge_inner(r[3], size, first, field);
-    let pdu = path::first_of(gtpu::judge_gpdu(r[2], g), inner);
+    let inner = gtpu::judge_inner(r[rule::SESSION], size, first, field);
+    let pdu = path::first_of(gtpu::judge_gpdu(r[rule::DIRECTION], g), inner);
     path::first_of(
         judge_tunnel(h, g),
         path::first_of(gtpu::judge_message(g), pdu),
@@ -78,8 +79,8 @@ fn sid_of(r: &[u8], to: [u8; 4], args: args::Args) -> [u8; 16]
     requires { ⌜ (length (now r) ≡ 160) × (Rule.p (now r) ≤ 7) ⌝ }
     ensures { λ a. ⌜ a ≡ withArgs (addressBehind (Rule.sidPrefix (now (r .entry))) (Rule.p (now (r .entry))) to) (startBehind (Rule.p (now (r .entry)))) (value args) ⌝ }
 {
-    let p = r[4];
-    let base = behind(r, 16, octets::wide(p), to);
+    let p = r[rule::P];
+    let base = behind(r, rule::SID_PREFIX, octets::wide(p), to);
     args.in_sid(base, 8 * (p + 4))
 }
 
@@ -105,8 +106,17 @@ fn put_past(
     requires { ⌜ (length (now r) ≡ 160) × (1 ≤ w) × (w ≤ 7) × (24 + 16 * w + size < 65536) × (64 + 16 * w ≤ length (now out)) ⌝ }
     ensures { λ _. ⌜ Run (now (out .entry)) 0 (64 + 16 * w) (pathHead class upper (Rule.hopLimit (now (r .entry))) source (getD (addressesAt (now (r .entry)) 48 w ++ sid ∷ []) 0 []) (w + 1) size (sid ∷ []) (addressesAt (now (r .entry)) 48 w)) (now (out .exit)) ⌝ }
 {
-    let first = octets::window16(r, 48);
-    path::put_front(out, class, upper, r[1], source, first, w + 1, size);
+    let first = octets::window16(r, rule::WAYPOINTS);
+    path::put_front(
+        out,
+        class,
+        upper,
+        r[rule::HOP_LIMIT],
+        source,
+        first,
+        w + 1,
+        size,
+    );
     octets::copy_to(out, 48, &sid);
     srh::put_reversed(out, 64, r, 48, w);
 }
@@ -163,7 +173,7 @@ pub fn at_d4(r: &[u8], h: rules::Header4, packet: &[u8], out: &mut [u8]) -> Answ
     requires { ⌜ (length (now r) ≡ 160) × (Rule.p (now r) ≤ 7) × (Rule.q (now r) ≤ 12) × (Rule.waypointCount (now r) ≤ 7) × Sight4 (now packet) h ⌝ }
     ensures { λ a. ⌜ Answered (settle (length (now (out .entry))) (atD4 (now (r .entry)) (now (packet .entry)))) (now (out .entry)) a (now (out .exit)) ⌝ }
 {
-    let w = octets::wide(r[6]);
+    let w = octets::wide(r[rule::WAYPOINT_COUNT]);
     let g = gtpu::datagram_at(packet, 20);
     let place = 20 + gtpu::inner_at(g);
     let size = octets::less(packet.len(), place);
@@ -189,14 +199,23 @@ fn send(r: &[u8], w: usize, args: args::Args, packet: &[u8], place: usize, out: 
     requires { ⌜ (length (now r) ≡ 160) × (Rule.p (now r) ≤ 7) × (Rule.q (now r) ≤ 12) × (w ≡ Rule.waypointCount (now r)) × (w ≤ 7) × (cond (eqb w 0) (length (now packet) - place) (24 + 16 * w + (length (now packet) - place)) < 65536) × Parts (carried4 (now packet)) (now packet) (octet (now packet) 1) (value args) place ⌝ }
     ensures { λ a. ⌜ Answered (settle (length (now (out .entry))) (Sent (d4Packet (now (r .entry)) (carried4 (now (packet .entry)))))) (now (out .entry)) a (now (out .exit)) ⌝ }
 {
-    let upper = session::inner_next(r[3], octets::octet_or_0(packet, place));
+    let upper = session::inner_next(r[rule::SESSION], octets::octet_or_0(packet, place));
     let from = octets::window4(packet, 12);
     let to = octets::window4(packet, 16);
-    let source = behind(r, 32, octets::wide(r[5]), from);
+    let source = behind(r, rule::SOURCE_PREFIX, octets::wide(r[rule::Q]), from);
     let sid = sid_of(r, to, args);
     let class = octets::octet_or_0(packet, 1);
     if w == 0 {
-        return send_plain(r[1], class, upper, source, sid, packet, place, out);
+        return send_plain(
+            r[rule::HOP_LIMIT],
+            class,
+            upper,
+            source,
+            sid,
+            packet,
+            place,
+            out,
+        );
     }
     send_past(r, w, class, upper, source, sid, packet, place, out)
 }

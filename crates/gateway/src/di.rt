@@ -4,6 +4,8 @@ use crate::d;
 use crate::path;
 use crate::session;
 use crate::tunnel;
+use table::entry;
+use table::policy;
 ghost use mathlib.Core.Path.{_≡_};
 ghost use mathlib.Core.List.{List, [], _∷_, _++_};
 ghost use Prim.Native.Nat.{ℕ, _+_, _-_, _*_, _≤_, _<_};
@@ -38,8 +40,17 @@ fn put_head(
     ensures { λ _. ⌜ Run (now (out .entry)) 0 (64 + 16 * n) (pathHead class upper (Entry.hopLimit (now (e .entry))) (Entry.source (now (e .entry))) (getD (addressesAt (now (y .entry)) 16 (n - 1) ++ sid ∷ to ∷ []) 0 []) (n + 1) size (sid ∷ to ∷ []) (addressesAt (now (y .entry)) 16 (n - 1))) (now (out .exit)) ⌝ }
 {
     let first = d::first_sid(y, n, sid);
-    let source = octets::window16(e, 32);
-    path::put_front(out, class, upper, e[2], source, first, n + 1, size);
+    let source = octets::window16(e, entry::SOURCE);
+    path::put_front(
+        out,
+        class,
+        upper,
+        e[entry::HOP_LIMIT],
+        source,
+        first,
+        n + 1,
+        size,
+    );
     octets::copy_to(out, 48, &to);
     octets::copy_to(out, 64, &sid);
     srh::put_reversed(out, 80, y, 16, n - 1);
@@ -63,9 +74,9 @@ fn send(
     if out.len() < 64 + 16 * n + size {
         return Answer::plain(16);
     }
-    let upper = session::inner_next(e[4], octets::octet_or_0(packet, place));
+    let upper = session::inner_next(e[entry::SESSION], octets::octet_or_0(packet, place));
     let last = octets::window16(y, 16 * n);
-    let sid = args.in_sid(last, y[1]);
+    let sid = args.in_sid(last, y[policy::START]);
     let to = octets::window16(packet, 24);
     put_head(e, y, n, class, upper, sid, to, size, out);
     octets::copy_part(out, 64 + 16 * n, packet, place);
@@ -77,7 +88,7 @@ pub fn at_di(e: &[u8], y: &[u8], h: rules::Header, packet: &[u8], out: &mut [u8]
     requires { ⌜ (length (now e) ≡ 64) × (length (now y) ≡ 288) × (1 ≤ Policy.sidCount (now y)) × (Policy.sidCount (now y) ≤ 8) × (Policy.start (now y) ≤ 88) × Sight (now packet) h ⌝ }
     ensures { λ r. ⌜ Answered (settle (length (now (out .entry))) (atDi (now (e .entry)) (now (y .entry)) (now (packet .entry)))) (now (out .entry)) r (now (out .exit)) ⌝ }
 {
-    let n = octets::wide(y[0]);
+    let n = octets::wide(y[policy::SID_COUNT]);
     let at = h.upperAt as usize;
     let g = gtpu::datagram_at(packet, at);
     let place = at + gtpu::inner_at(g);

@@ -1,6 +1,7 @@
 // E4: End.M.GTP4.E (RFC 9433, 6.6).
 use crate::answer::Answer;
 use crate::session;
+use table::entry;
 ghost use mathlib.Core.Path.{_≡_};
 ghost use mathlib.Core.Bool.{not};
 ghost use mathlib.Core.List.{List, [], _∷_, _++_};
@@ -47,7 +48,7 @@ fn judge(e: &[u8], h: rules::Header, size: usize) -> rules::Verdict
             pointer: 43,
         });
     }
-    if bad_upper(e[4], h) {
+    if bad_upper(e[entry::SESSION], h) {
         return rules::Verdict::Refuse(rules::Refusal {
             number: 8,
             icmpType: 4,
@@ -71,14 +72,21 @@ fn put_head(e: &[u8], class: u8, sid: [u8; 16], from: [u8; 16], size: usize, out
     requires { ⌜ (length (now e) ≡ 64) × (44 + size < 65536) × (44 ≤ length (now out)) × (Entry.direction (now e) < 2) × (Entry.p (now e) ≤ 7) ⌝ }
     ensures { λ _. ⌜ Run (now (out .entry)) 0 44 (e4Head (now (e .entry)) class sid from size) (now (out .exit)) ⌝ }
 {
-    let p = e[7];
-    let q = e[8];
+    let p = e[entry::P];
+    let q = e[entry::Q];
     let args = args::Args::from_sid(sid, 8 * (p + 4));
     let source = octets::window4(&from, octets::wide(q));
     let destination = octets::window4(&sid, octets::wide(p));
     let total = (44 + size) as u16;
-    ip::put_ipv4(out, class, total, e[2], source, destination);
-    gtpu::put_datagram(out, 20, octets::join16(e[10], e[11]), e[3], args, size);
+    ip::put_ipv4(out, class, total, e[entry::HOP_LIMIT], source, destination);
+    gtpu::put_datagram(
+        out,
+        20,
+        octets::join16(e[entry::SOURCE_PORT], e[entry::SOURCE_PORT_LOW]),
+        e[entry::DIRECTION],
+        args,
+        size,
+    );
 }
 
 // Row 16, then the packet.

@@ -1,6 +1,7 @@
 // E6: End.M.GTP6.E (RFC 9433, 6.5).
 use crate::answer::Answer;
 use crate::session;
+use table::entry;
 ghost use mathlib.Core.Path.{_≡_};
 ghost use mathlib.Core.Bool.{not};
 ghost use mathlib.Core.List.{List, [], _∷_, _++_};
@@ -61,7 +62,7 @@ fn judge(e: &[u8], h: rules::Header, size: usize) -> rules::Verdict
             pointer: 43,
         });
     }
-    if bad_upper(e[4], h) {
+    if bad_upper(e[entry::SESSION], h) {
         return rules::Verdict::Refuse(rules::Refusal {
             number: 8,
             icmpType: 4,
@@ -85,11 +86,18 @@ fn put_head(e: &[u8], class: u8, sid: [u8; 16], to: [u8; 16], size: usize, out: 
     requires { ⌜ (length (now e) ≡ 64) × (24 + size < 65536) × (64 ≤ length (now out)) × (Entry.direction (now e) < 2) ⌝ }
     ensures { λ _. ⌜ Run (now (out .entry)) 0 64 (e6Head (now (e .entry)) class sid to size) (now (out .exit)) ⌝ }
 {
-    let args = args::Args::from_sid(sid, e[6]);
-    let source = octets::window16(e, 32);
+    let args = args::Args::from_sid(sid, e[entry::START]);
+    let source = octets::window16(e, entry::SOURCE);
     let payload = (24 + size) as u16;
-    ip::put_ipv6(out, class, payload, 17, e[2], source, to);
-    gtpu::put_datagram(out, 40, octets::join16(e[10], e[11]), e[3], args, size);
+    ip::put_ipv6(out, class, payload, 17, e[entry::HOP_LIMIT], source, to);
+    gtpu::put_datagram(
+        out,
+        40,
+        octets::join16(e[entry::SOURCE_PORT], e[entry::SOURCE_PORT_LOW]),
+        e[entry::DIRECTION],
+        args,
+        size,
+    );
 }
 
 // Row 16, then the packet.

@@ -1,5 +1,6 @@
 // What D and Di ask of an arriving G-PDU: rows 5, 7 to 15.
 use crate::path;
+use table::entry;
 ghost use mathlib.Core.Path.{_≡_};
 ghost use mathlib.Core.List.{List, [], _∷_, _++_};
 ghost use Prim.Native.Nat.{ℕ, _+_, _<_};
@@ -52,8 +53,8 @@ pub fn judge(
     requires { ⌜ length (now e) ≡ 64 ⌝ }
     ensures { λ r. ⌜ r ≡ verdict (gtp6Rows h g ++ (messageRows g ++ (gPduRows (Entry.direction (now (e .entry))) g ++ innerRows (Entry.session (now (e .entry))) size first field))) ⌝ }
 {
-    let inner = gtpu::judge_inner(e[4], size, first, field);
-    let pdu = path::first_of(gtpu::judge_gpdu(e[3], g), inner);
+    let inner = gtpu::judge_inner(e[entry::SESSION], size, first, field);
+    let pdu = path::first_of(gtpu::judge_gpdu(e[entry::DIRECTION], g), inner);
     path::first_of(
         judge_tunnel(h, g),
         path::first_of(gtpu::judge_message(g), pdu),

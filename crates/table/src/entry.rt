@@ -29,6 +29,8 @@ pub const RESERVED: usize = 9;
 
 pub const SOURCE_PORT: usize = 10;
 
+pub const SOURCE_PORT_LOW: usize = 11;
+
 pub const PREFIX: usize = 16;
 
 pub const SOURCE: usize = 32;
