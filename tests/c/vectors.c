@@ -1,5 +1,6 @@
 /* Reads lines of `second vectors` from standard input, makes each call through the library and compares the answer, the octets sent and
    every other octet of the output with what the line expects. Status 0: no difference; 1: a difference, or a line that is not one. */
+#include "hex.h"
 #include "kawsarpa.h"
 
 #include <stdio.h>
@@ -17,24 +18,6 @@ static char line[1 << 20];
 static uint8_t filler(size_t i)
 {
     return (uint8_t)(i * 7 + 3);
-}
-
-/* The octets of a hexadecimal field into a buffer; "-" is an empty one. Returns their count, or -1. */
-static long octets(const char *field, uint8_t *into, size_t most)
-{
-    size_t n = strlen(field) / 2;
-    if (strcmp(field, "-") == 0)
-        return 0;
-    if (strlen(field) % 2 != 0 || n > most)
-        return -1;
-    for (size_t i = 0; i < n; i++) {
-        const char pair[3] = {field[2 * i], field[2 * i + 1], 0};
-        char *end;
-        into[i] = (uint8_t)strtoul(pair, &end, 16);
-        if (*end != 0)
-            return -1;
-    }
-    return (long)n;
 }
 
 static int split(char *text, char *fields[FIELDS])
@@ -56,9 +39,9 @@ static int equals(unsigned long value, const char *field)
 /* 1: as expected, 0: a difference, -1: no line of vectors. */
 static int try_line(char *fields[FIELDS])
 {
-    const long packet_len = octets(fields[PACKET], packet, sizeof packet);
-    const long table_len = octets(fields[TABLE], table, sizeof table);
-    const long length = octets(fields[OUT], expected, sizeof expected);
+    const long packet_len = hex_octets(fields[PACKET], packet, sizeof packet);
+    const long table_len = hex_octets(fields[TABLE], table, sizeof table);
+    const long length = hex_octets(fields[OUT], expected, sizeof expected);
     const size_t room = strtoul(fields[ROOM], NULL, 10);
     const int ipv6 = strcmp(fields[CALL], "ipv6") == 0;
     uint64_t answer;

@@ -1,5 +1,6 @@
 /* Makes calls through the library. A line in: `ipv6|ipv4|waypoint packet-hex table-hex`. A line out: `number icmp_type icmp_code
    icmp_pointer out-hex`, where `-` is an empty output. Status 1: a line that is not one. */
+#include "../c/hex.h"
 #include "kawsarpa.h"
 
 #include <stdio.h>
@@ -10,22 +11,6 @@ enum { MOST = 1 << 17 };
 
 static char line[5 * MOST];
 static uint8_t packet[MOST], table[MOST], out[MOST];
-
-/* The octets of a hexadecimal field, and how many; -1 for what is none. */
-static long octets(const char *field, uint8_t *into)
-{
-    const size_t n = strlen(field) / 2;
-    if (strlen(field) % 2 != 0 || n > MOST)
-        return -1;
-    for (size_t i = 0; i < n; i++) {
-        const char pair[3] = {field[2 * i], field[2 * i + 1], 0};
-        char *end;
-        into[i] = (uint8_t)strtoul(pair, &end, 16);
-        if (*end != 0)
-            return -1;
-    }
-    return (long)n;
-}
 
 /* 0 where the call is not one of the three. */
 static int make_call(const char *call, size_t packet_len, size_t table_len, uint64_t *answer)
@@ -45,8 +30,8 @@ int main(void)
 {
     while (fgets(line, sizeof line, stdin) != NULL) {
         const char *call = strtok(line, " \n"), *packet_hex = strtok(NULL, " \n"), *table_hex = strtok(NULL, " \n");
-        const long packet_len = packet_hex ? octets(packet_hex, packet) : -1;
-        const long table_len = table_hex ? octets(table_hex, table) : -1;
+        const long packet_len = packet_hex ? hex_octets(packet_hex, packet, sizeof packet) : -1;
+        const long table_len = table_hex ? hex_octets(table_hex, table, sizeof table) : -1;
         uint64_t answer;
         if (packet_len < 0 || table_len < 0 || !make_call(call, (size_t)packet_len, (size_t)table_len, &answer)) {
             fprintf(stderr, "call: not a line of a call, a packet and a table\n");
