@@ -1,0 +1,63 @@
+use mathlib.Core.Path.{_≡_, refl, sym, ap, _∙_}
+use mathlib.Core.List.{List}
+use Prim.Native.Nat.{ℕ, _≤_, _-_}
+use native.Mathlib.Omega.{arith}
+use lib.Dec.{eqb}
+use borrow.Author.Tests.{ne-eqb}
+use Rattle.rules.specs.Table.{policies, entryAt}
+use Rattle.rules.specs.Fault.{entryRecord, entryBroken, told, firstFault}
+use Rattle.table.proofs.Trying.{first-none, first-more, first-found, first-done}
+use borrow.Author.Needs.{needs}
+use Rattle.table.proofs.faults.entries_fault.Statement.{statement}
+use Rattle.table.proofs.faults.entries_fault.Tie as tie
+
+abbrev faultAt : (t : List ℕ) (i : ℕ) → ℕ
+faultAt t i = told entryRecord i (entryBroken (policies t) (entryAt t i))
+
+abbrev Inv-loop : tie.InvT-loop
+Inv-loop table count policyCount i₀ i = (i ≤ count) × (firstFault (faultAt table) i ≡ 0)
+
+abbrev μ-loop : tie.MeasureT-loop
+μ-loop table count policyCount i₀ i = count - i
+
+loop-holds : tie.Need-loop-holds Inv-loop μ-loop
+loop-holds c = (search needs, first-none _)
+
+returns : tie.Need-returns Inv-loop μ-loop
+returns c =
+    let k = c .before in
+    let l = k .before .before .before .before in
+    let t : List ℕ = l .before .before .before .before .args .table .now in
+    let i : ℕ = l .loop .i in
+    let e : k .told .result ≡ faultAt t i = rw (k .told .ensures, k .before .broken .ensures, k .before .before .entry-at .ensures .same, l .before .policies .ensures .value) refl in
+    e ∙ sym (first-found (faultAt t) _ i (omega arith) (l .loop .inv .1) (ap (λ (x : ℕ). eqb x 0) (sym e) ∙ ne-eqb _ _ (c .if1 .taken)))
+
+loop-again : tie.Need-loop-again Inv-loop μ-loop
+loop-again c =
+    let k = c .before in
+    let l = k .before .before .before .before in
+    let t : List ℕ = l .before .before .before .before .args .table .now in
+    let i : ℕ = l .loop .i in
+    let e : k .told .result ≡ faultAt t i = rw (k .told .ensures, k .before .broken .ensures, k .before .before .entry-at .ensures .same, l .before .policies .ensures .value) refl in
+    (search needs, first-more (faultAt t) i (l .loop .inv .1) (sym e ∙ c .if1 .left))
+
+returns-2 : tie.Need-returns-2 Inv-loop μ-loop
+returns-2 c = sym (first-done _ _ _ (c .before .loop .inv .1) (omega arith))
+
+pub entries-fault-spec : {M : Type 1} → statement M
+entries-fault-spec =
+    tie.close
+    (tie.spec
+    Inv-loop
+    μ-loop
+    (λ c κs. search needs)
+    (λ c κs. search needs)
+    loop-holds
+    (λ c κs. search needs)
+    (λ c κs. search needs)
+    (λ c κs. search needs)
+    returns
+    (λ c. search needs)
+    (λ c. search needs)
+    loop-again
+    returns-2)
