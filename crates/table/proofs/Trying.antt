@@ -46,8 +46,8 @@ pub tried-broken : (bs : List Bool) → tried 0 1 bs ≡ firstBroken 1 bs
 tried-broken bs = tried-behind 0 0 bs ∙ else-zero (firstBroken 1 bs)
 
 -- what a function that tries one condition more says, with what is known of its arguments
-pub next : {r s known x condition : ℕ} → r ≡ orElse s x → s ≡ known → x ≡ condition → r ≡ orElse known condition
-next e p q = e ∙ (λ i. orElse (p i) (q i))
+pub next : {s known r x condition : ℕ} → s ≡ known → r ≡ orElse s x → x ≡ condition → r ≡ orElse known condition
+next p e q = e ∙ (λ i. orElse (p i) (q i))
 
 pub tested : (n : ℕ) {b condition : Bool} → b ≡ condition → cond b 0 n ≡ cond condition 0 n
 tested n e = λ i. cond (e i) 0 n

@@ -26,7 +26,20 @@ returns c =
     let c₁ = c₂ .before in
     let c₀ = c₁ .before .before .before .before .before in
     let e : List ℕ = c₀ .args .e .now in
-    (next (c .or-broken13 .ensures) (next (c₁₂ .or-broken12 .ensures) (next (c₁₁ .or-broken11 .ensures) (next (c₁₀ .or-broken10 .ensures) (next (c₉ .or-broken9 .ensures) (next (c₈ .or-broken8 .ensures) (next (c₇ .or-broken7 .ensures) (next (c₆ .or-broken6 .ensures) (next (c₅ .or-broken5 .ensures) (next (c₄ .or-broken4 .ensures) (next (c₃ .or-broken3 .ensures) (next (c₂ .or-broken2 .ensures) (next (c₁ .or-broken .ensures) refl (tested 1 (c₁ .before .behaviour-known .ensures))) refl) (tested 3 (c₃ .before .prefix-clear .ensures))) refl) (tested-where (usesSession e) 5 (c₅ .before .direction-known .ensures))) (tested-where (usesSession e) 6 (c₆ .before .session-known .ensures))) (tested 7 (c₇ .before .policy-exists .ensures))) (tested-where (usesStart e) 8 (c₈ .before .start-within .ensures))) refl) refl) refl) (tested-where (usesPlaces e) 12 (c₁₂ .before .prefix-before-address .ensures))) refl)
+    (next (next (next (next (next (next (next (next (next (next (next (next (next refl
+    (c₁ .or-broken .ensures) (tested 1 (c₁ .before .behaviour-known .ensures)))
+    (c₂ .or-broken2 .ensures) refl)
+    (c₃ .or-broken3 .ensures) (tested 3 (c₃ .before .prefix-clear .ensures)))
+    (c₄ .or-broken4 .ensures) refl)
+    (c₅ .or-broken5 .ensures) (tested-where (usesSession e) 5 (c₅ .before .direction-known .ensures)))
+    (c₆ .or-broken6 .ensures) (tested-where (usesSession e) 6 (c₆ .before .session-known .ensures)))
+    (c₇ .or-broken7 .ensures) (tested 7 (c₇ .before .policy-exists .ensures)))
+    (c₈ .or-broken8 .ensures) (tested-where (usesStart e) 8 (c₈ .before .start-within .ensures)))
+    (c₉ .or-broken9 .ensures) refl)
+    (c₁₀ .or-broken10 .ensures) refl)
+    (c₁₁ .or-broken11 .ensures) refl)
+    (c₁₂ .or-broken12 .ensures) (tested-where (usesPlaces e) 12 (c₁₂ .before .prefix-before-address .ensures)))
+    (c .or-broken13 .ensures) refl)
     ∙ tried-broken (entryConditions (c₀ .args .policies) e)
 
 pub broken-spec : {M : Type 1} → statement M

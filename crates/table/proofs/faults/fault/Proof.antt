@@ -58,10 +58,10 @@ returns-2 : tie.Need-returns-2
 returns-2 c =
     let y = c .before .before .before .before in
     let u = y .before .before .before .before in
-    next (c .or-else4 .ensures) (u .entries-fault .ensures)
-    (next (c .before .or-else3 .ensures) (y .before .before .before .entry-prefixes-fault .ensures)
-    (next (c .before .before .or-else2 .ensures) (y .before .before .rules-fault .ensures)
-    (next (c .before .before .before .or-else .ensures) (y .before .rule-prefixes-fault .ensures) (y .policies-fault .ensures))))
+    next (u .entries-fault .ensures) (c .or-else4 .ensures)
+    (next (y .before .before .before .entry-prefixes-fault .ensures) (c .before .or-else3 .ensures)
+    (next (y .before .before .rules-fault .ensures) (c .before .before .or-else2 .ensures)
+    (next (y .before .rule-prefixes-fault .ensures) (c .before .before .before .or-else .ensures) (y .policies-fault .ensures))))
     ∙ sym (headerless _ (unbroken (u .before)))
 
 pub fault-spec : {M : Type 1} → statement M

@@ -15,7 +15,10 @@ returns c =
     let c₁ = c₂ .before .before .before in
     let c₀ = c₁ .before .before .before .before in
     let y : List ℕ = c₀ .args .y .now in
-    (next (c .or-broken3 .ensures) (next (c₂ .or-broken2 .ensures) (next (c₁ .or-broken .ensures) refl refl) (tested 2 (c₂ .before .start-within .ensures))) refl)
+    (next (next (next refl
+    (c₁ .or-broken .ensures) refl)
+    (c₂ .or-broken2 .ensures) (tested 2 (c₂ .before .start-within .ensures)))
+    (c .or-broken3 .ensures) refl)
     ∙ tried-broken (policyConditions y)
 
 pub broken-spec : {M : Type 1} → statement M

@@ -23,7 +23,18 @@ returns c =
     let c₁ = c₂ .before .before in
     let c₀ = c₁ .before .before .before in
     let r : List ℕ = c₀ .args .r .now in
-    (next (c .or-broken11 .ensures) (next (c₁₀ .or-broken10 .ensures) (next (c₉ .or-broken9 .ensures) (next (c₈ .or-broken8 .ensures) (next (c₇ .or-broken7 .ensures) (next (c₆ .or-broken6 .ensures) (next (c₅ .or-broken5 .ensures) (next (c₄ .or-broken4 .ensures) (next (c₃ .or-broken3 .ensures) (next (c₂ .or-broken2 .ensures) (next (c₁ .or-broken .ensures) refl refl) (tested 2 (c₂ .before .prefix-clear .ensures))) refl) (tested 4 (c₄ .before .direction-known .ensures))) (tested 5 (c₅ .before .session-known .ensures))) refl) refl) (tested 8 (c₈ .before .sid-prefix-clear .ensures))) (tested 9 (c₉ .before .source-prefix-clear .ensures))) refl) refl)
+    (next (next (next (next (next (next (next (next (next (next (next refl
+    (c₁ .or-broken .ensures) refl)
+    (c₂ .or-broken2 .ensures) (tested 2 (c₂ .before .prefix-clear .ensures)))
+    (c₃ .or-broken3 .ensures) refl)
+    (c₄ .or-broken4 .ensures) (tested 4 (c₄ .before .direction-known .ensures)))
+    (c₅ .or-broken5 .ensures) (tested 5 (c₅ .before .session-known .ensures)))
+    (c₆ .or-broken6 .ensures) refl)
+    (c₇ .or-broken7 .ensures) refl)
+    (c₈ .or-broken8 .ensures) (tested 8 (c₈ .before .sid-prefix-clear .ensures)))
+    (c₉ .or-broken9 .ensures) (tested 9 (c₉ .before .source-prefix-clear .ensures)))
+    (c₁₀ .or-broken10 .ensures) refl)
+    (c .or-broken11 .ensures) refl)
     ∙ tried-broken (ruleConditions r)
 
 pub broken-spec : {M : Type 1} → statement M
