@@ -2,9 +2,10 @@
 use mathlib.Core.Path.{_≡_, refl, sym, _∙_}
 use mathlib.Core.Bool.{Bool, true, false, _&&_, and-true}
 use mathlib.Core.List.{List, [], _∷_}
-use Prim.Native.Nat.{ℕ, zero, suc, _+_, _*_}
+use Prim.Native.Nat.{ℕ, zero, suc, _+_, _*_, _≤_, _<_}
 use native.Mathlib.Omega.{arith}
 use lib.Dec.{eqb}
+use lib.ListN.{length}
 use borrow.Author.Tests.{eqb-true, eq-eqb, ne-eqb}
 use Rattle.rules.specs.Table.{entries, rules, policies, entryAt, ruleAt, policyAt}
 use Rattle.rules.specs.Sound.{every, all, fresh, headerConditions, entryConditions, ruleConditions, policyConditions, headerSound, entrySound, ruleSound, policySound, sameEntryPrefix, sameRulePrefix, distinct, soundWithin, sound, entryLimit}
@@ -84,3 +85,40 @@ sound-faultless t s = eqb-true (fault t) 0 (none-sound entryLimit t ∙ s)
 
 pub faultless-sound : (t : List ℕ) → fault t ≡ 0 → sound t ≡ true
 faultless-sound t e = sym (none-sound entryLimit t) ∙ eq-eqb (fault t) 0 e
+
+-- WHAT A FAULT NAMES
+
+-- a condition of the header, or of an entry, a rule or a policy that the table has, by a number of that record's list
+pub data Named (t : List ℕ) : ℕ → Type 0 where
+  none : Named t 0
+  atHeader : (condition : ℕ) → condition ≤ 5 → Named t (told headerRecord 0 condition)
+  atEntry : (i condition : ℕ) → i < entries t → condition ≤ 14 → Named t (told entryRecord i condition)
+  atRule : (k condition : ℕ) → k < rules t → condition ≤ 12 → Named t (told ruleRecord k condition)
+  atPolicy : (j condition : ℕ) → j < policies t → condition ≤ 3 → Named t (told policyRecord j condition)
+
+broken-most : (n : ℕ) (bs : List Bool) → firstBroken (suc n) bs ≤ n + length bs
+broken-most n [] = omega arith
+broken-most n (true ∷ bs) = omega (arith, broken-most (suc n) bs)
+broken-most n (false ∷ bs) = omega arith
+
+-- of two faults, and of several, the first that there is is one of them
+module _ (P : ℕ → Type 0) where
+  else-one : (f g : ℕ) → P f → P g → P (orElse f g)
+  unfolding orElse
+  else-one zero g p q = q
+  else-one (suc f) g p q = rw (ne-eqb (suc f) 0 (λ e. omega arith)) p
+
+  first-one : (faultOf : ℕ → ℕ) (n : ℕ) → P 0 → ((i : ℕ) → i < n → P (faultOf i)) → P (firstFault faultOf n)
+  unfolding firstFault
+  first-one faultOf zero z h = z
+  first-one faultOf (suc n) z h = else-one (firstFault faultOf n) (faultOf n) (first-one faultOf n z (λ i l. h i (omega arith))) (h n (omega arith))
+
+pub fault-named : (limit : ℕ) (t : List ℕ) → Named t (faultWithin limit t)
+unfolding faultWithin entryBroken ruleBroken policyBroken
+fault-named limit t =
+    else-one (Named t) (headerFault limit t) _ (atHeader _ (broken-most 0 (headerConditions limit t)))
+    (else-one (Named t) (entriesFault t) _ (first-one (Named t) _ _ none (λ i l. atEntry i _ l (omega (arith, broken-most 0 (entryConditions (policies t) (entryAt t i))))))
+    (else-one (Named t) (entryPrefixesFault t) _ (first-one (Named t) _ _ none (λ j l. atEntry j _ l (broken-most 13 (fresh (sameEntryPrefix t) j ∷ []))))
+    (else-one (Named t) (rulesFault t) _ (first-one (Named t) _ _ none (λ k l. atRule k _ l (omega (arith, broken-most 0 (ruleConditions (ruleAt t k))))))
+    (else-one (Named t) (rulePrefixesFault t) _ (first-one (Named t) _ _ none (λ j l. atRule j _ l (broken-most 11 (fresh (sameRulePrefix t) j ∷ []))))
+    (first-one (Named t) _ _ none (λ j l. atPolicy j _ l (broken-most 0 (policyConditions (policyAt t j)))))))))

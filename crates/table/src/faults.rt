@@ -110,13 +110,9 @@ fn entries_fault(table: &[u8]) -> u64
     let policy_count = records::policies(table);
     let mut i = 0;
     while i < count {
-        let fault = told(
-            ENTRY,
-            i,
-            entry::broken(records::entry_at(table, i), policy_count),
-        );
-        if fault != 0 {
-            return fault;
+        let condition = entry::broken(records::entry_at(table, i), policy_count);
+        if condition != 0 {
+            return told(ENTRY, i, condition);
         }
         i += 1;
     }
@@ -130,9 +126,9 @@ fn rules_fault(table: &[u8]) -> u64
     let count = records::rules(table);
     let mut k = 0;
     while k < count {
-        let fault = told(RULE, k, rule::broken(records::rule_at(table, k)));
-        if fault != 0 {
-            return fault;
+        let condition = rule::broken(records::rule_at(table, k));
+        if condition != 0 {
+            return told(RULE, k, condition);
         }
         k += 1;
     }
@@ -146,9 +142,9 @@ fn policies_fault(table: &[u8]) -> u64
     let count = records::policies(table);
     let mut j = 0;
     while j < count {
-        let fault = told(POLICY, j, policy::broken(records::policy_at(table, j)));
-        if fault != 0 {
-            return fault;
+        let condition = policy::broken(records::policy_at(table, j));
+        if condition != 0 {
+            return told(POLICY, j, condition);
         }
         j += 1;
     }
