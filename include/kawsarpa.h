@@ -7,7 +7,9 @@
  *     if (kawsarpa_answer_number(answer) == KAWSARPA_ANSWER_SENT)
  *         send_on(out, kawsarpa_answer_length(answer));
  *
- * The parts of this file: the calls, what they answer, the octets of a table. The library is for x86-64.
+ * kawsarpa_table_fault says of a table, before it is used, which condition it breaks, if any.
+ *
+ * The parts of this file: the calls, what they answer, the faults of a table, the octets of a table. The library is for x86-64.
  */
 #ifndef KAWSARPA_H
 #define KAWSARPA_H
@@ -23,6 +25,7 @@
  * kawsarpa_translate_ipv4 takes an IPv4 packet, looks its destination up among the table's rules and does H.M.GTP4.D (D4).
  * kawsarpa_waypoint is the IPv6 call under another name: it gives the same answer and the same octets, whatever kind of entry
  * matches. It is not confined to waypoint entries, because the list of answers has no number for "matched, but another kind".
+ * kawsarpa_table_fault takes a table alone and tells its fault: 0 exactly when the table is sound.
  *
  * A refusal changes no octet of the output. A packet that is sent changes the first octets of the output, as many as the answer's
  * length says, and no other octet.
@@ -48,6 +51,8 @@ uint64_t kawsarpa_translate_ipv4(const uint8_t *packet, size_t packet_len, const
 
 uint64_t kawsarpa_waypoint(const uint8_t *packet, size_t packet_len, const uint8_t *table, size_t table_len,
                            uint8_t *out, size_t out_len);
+
+uint64_t kawsarpa_table_fault(const uint8_t *table, size_t table_len);
 
 #ifdef __cplusplus
 }
@@ -77,6 +82,12 @@ static inline uint64_t kawsarpa_call_waypoint(const uint8_t *packet, size_t pack
     uint8_t none = 0;
     return kawsarpa_waypoint(packet_len == 0 ? &none : packet, packet_len, table_len == 0 ? &none : table, table_len,
                              out_len == 0 ? &none : out, out_len);
+}
+
+static inline uint64_t kawsarpa_call_table_fault(const uint8_t *table, size_t table_len)
+{
+    uint8_t none = 0;
+    return kawsarpa_table_fault(table_len == 0 ? &none : table, table_len);
 }
 
 /*
@@ -171,6 +182,155 @@ static inline const char *kawsarpa_answer_name(unsigned int number)
 }
 
 /*
+ * THE FAULTS OF A TABLE
+ *
+ * 0 for a sound table. Otherwise the condition that is broken in bits 0 to 7, the kind of its record in bits 8 to 15, the record's
+ * index, from 0, in bits 16 to 31. All other bits are 0.
+ *
+ *     uint64_t fault = kawsarpa_call_table_fault(table, table_len);
+ *     if (fault != 0)
+ *         printf("%s (index %u)\n", kawsarpa_fault_name(fault), (unsigned int)kawsarpa_fault_index(fault));
+ *
+ * The first condition that is broken is told, in this order: the header's; then each entry's, entry after entry; then the entries'
+ * prefixes; then each rule's; then the rules' prefixes; then each policy's. Within a record they are tried in the order of their
+ * numbers. Octets of the header that a shorter table lacks are read as 0.
+ */
+
+/* The condition that is broken: KAWSARPA_FAULT_... of its record. */
+static inline uint8_t kawsarpa_fault_condition(uint64_t fault)
+{
+    return (uint8_t)(fault & 0xFF);
+}
+
+/* The kind of record that breaks it: KAWSARPA_RECORD_... */
+static inline uint8_t kawsarpa_fault_record(uint64_t fault)
+{
+    return (uint8_t)(fault >> 8 & 0xFF);
+}
+
+/* Which record of its kind; 0 for the header. */
+static inline uint16_t kawsarpa_fault_index(uint64_t fault)
+{
+    return (uint16_t)(fault >> 16 & 0xFFFF);
+}
+
+/* The kinds of record. */
+enum {
+    KAWSARPA_RECORD_HEADER = 1,
+    KAWSARPA_RECORD_ENTRY = 2,
+    KAWSARPA_RECORD_RULE = 3,
+    KAWSARPA_RECORD_POLICY = 4
+};
+
+/* The conditions on the header. */
+enum {
+    /* the format is known */
+    KAWSARPA_FAULT_HEADER_FORMAT = 1,
+    /* at most 64 entries */
+    KAWSARPA_FAULT_HEADER_ENTRIES = 2,
+    /* at most 16 rules */
+    KAWSARPA_FAULT_HEADER_RULES = 3,
+    /* at most 16 policies */
+    KAWSARPA_FAULT_HEADER_POLICIES = 4,
+    /* the octets are those of the records */
+    KAWSARPA_FAULT_HEADER_SIZE = 5
+};
+
+/* The conditions on an entry. */
+enum {
+    /* the behaviour is known */
+    KAWSARPA_FAULT_ENTRY_BEHAVIOUR = 1,
+    /* the prefix length is at most 128 */
+    KAWSARPA_FAULT_ENTRY_PREFIX_LENGTH = 2,
+    /* bits past the prefix's length are 0 */
+    KAWSARPA_FAULT_ENTRY_PREFIX_BITS = 3,
+    /* the hop limit is 1 to 255 */
+    KAWSARPA_FAULT_ENTRY_HOP_LIMIT = 4,
+    /* D, Di, E6, E4: the direction is known */
+    KAWSARPA_FAULT_ENTRY_DIRECTION = 5,
+    /* D, Di, E6, E4: the session type is known */
+    KAWSARPA_FAULT_ENTRY_SESSION_TYPE = 6,
+    /* D, Di: the policy exists */
+    KAWSARPA_FAULT_ENTRY_POLICY = 7,
+    /* E6: the start of Args is 8a with a from 0 to 11 */
+    KAWSARPA_FAULT_ENTRY_ARGS_START = 8,
+    /* E6: the prefix has at most 8a bits */
+    KAWSARPA_FAULT_ENTRY_PREFIX_BEFORE_ARGS = 9,
+    /* E4: p is at most 7 */
+    KAWSARPA_FAULT_ENTRY_P = 10,
+    /* E4: q is at most 12 */
+    KAWSARPA_FAULT_ENTRY_Q = 11,
+    /* E4: the prefix has at most 8p bits */
+    KAWSARPA_FAULT_ENTRY_PREFIX_BEFORE_ADDRESS = 12,
+    /* the reserved octet is 0 */
+    KAWSARPA_FAULT_ENTRY_RESERVED = 13,
+    /* no earlier entry has this prefix with its length */
+    KAWSARPA_FAULT_ENTRY_REPEATED = 14
+};
+
+/* The conditions on a rule. */
+enum {
+    /* the prefix length is at most 32 */
+    KAWSARPA_FAULT_RULE_PREFIX_LENGTH = 1,
+    /* bits past the prefix's length are 0 */
+    KAWSARPA_FAULT_RULE_PREFIX_BITS = 2,
+    /* the hop limit is 1 to 255 */
+    KAWSARPA_FAULT_RULE_HOP_LIMIT = 3,
+    /* the direction is known */
+    KAWSARPA_FAULT_RULE_DIRECTION = 4,
+    /* the session type is known */
+    KAWSARPA_FAULT_RULE_SESSION_TYPE = 5,
+    /* p is at most 7 */
+    KAWSARPA_FAULT_RULE_P = 6,
+    /* q is at most 12 */
+    KAWSARPA_FAULT_RULE_Q = 7,
+    /* bits past 8p of the SID prefix are 0 */
+    KAWSARPA_FAULT_RULE_SID_PREFIX_BITS = 8,
+    /* bits past 8q of the source prefix are 0 */
+    KAWSARPA_FAULT_RULE_SOURCE_PREFIX_BITS = 9,
+    /* at most 7 waypoints */
+    KAWSARPA_FAULT_RULE_WAYPOINTS = 10,
+    /* the reserved octet is 0 */
+    KAWSARPA_FAULT_RULE_RESERVED = 11,
+    /* no earlier rule has this prefix with its length */
+    KAWSARPA_FAULT_RULE_REPEATED = 12
+};
+
+/* The conditions on a policy. */
+enum {
+    /* 1 to 8 SIDs */
+    KAWSARPA_FAULT_POLICY_SIDS = 1,
+    /* the start of Args is 8a with a from 0 to 11 */
+    KAWSARPA_FAULT_POLICY_ARGS_START = 2,
+    /* the reserved octet is 0 */
+    KAWSARPA_FAULT_POLICY_RESERVED = 3
+};
+
+/* What is wrong, in words, whatever the index is; "unknown" for a number that is no fault. */
+static inline const char *kawsarpa_fault_name(uint64_t fault)
+{
+    static const char *const names[4][14] = {
+        {"unknown format", "too many entries", "too many rules", "too many policies", "wrong length of the table"},
+        {"entry: unknown behaviour", "entry: prefix length over 128", "entry: bits past the prefix's length", "entry: hop limit 0",
+         "entry: unknown direction", "entry: unknown session type", "entry: no such policy", "entry: bad start of Args",
+         "entry: prefix longer than 8a", "entry: p over 7", "entry: q over 12", "entry: prefix longer than 8p",
+         "entry: reserved octet not 0", "entry: prefix of an earlier entry"},
+        {"rule: prefix length over 32", "rule: bits past the prefix's length", "rule: hop limit 0", "rule: unknown direction",
+         "rule: unknown session type", "rule: p over 7", "rule: q over 12", "rule: bits past 8p of the SID prefix",
+         "rule: bits past 8q of the source prefix", "rule: over 7 waypoints", "rule: reserved octet not 0",
+         "rule: prefix of an earlier rule"},
+        {"policy: not 1 to 8 SIDs", "policy: bad start of Args", "policy: reserved octet not 0"}
+    };
+    unsigned int condition = kawsarpa_fault_condition(fault);
+    unsigned int record = kawsarpa_fault_record(fault);
+    if (fault == 0)
+        return "sound";
+    if (fault >> 32 != 0 || record < 1 || record > 4 || condition < 1 || condition > 14 || names[record - 1][condition - 1] == NULL)
+        return "unknown";
+    return names[record - 1][condition - 1];
+}
+
+/*
  * THE OCTETS OF A TABLE
  *
  * A header, then the entries, the rules and the policies, with nothing between or behind them. The records are made of octets, so
@@ -186,6 +346,7 @@ static inline const char *kawsarpa_answer_name(unsigned int number)
  *
  * A table is sound if its format is 1, its counts are within the limits, its length is the size that they give, the bits past each
  * prefix's length are 0, no prefix with its length occurs twice among entries or among rules, and each field is as said beside it.
+ * kawsarpa_table_fault tells which of these a table breaks.
  */
 
 /* The format of a table, and how many records it holds at most. */

@@ -4,6 +4,7 @@ ghost use mathlib.Core.Path.{_≡_};
 ghost use lib.ListN.{length};
 ghost use Rattle.rules.specs.Answer.{packed, overlay};
 ghost use Rattle.rules.specs.Calls.{translate6, translate4};
+ghost use Rattle.rules.specs.Fault.{fault};
 
 // The IPv6 call.
 #[no_mangle]
@@ -30,4 +31,12 @@ pub extern "C" fn kawsarpa_waypoint(packet: &[u8], table: &[u8], out: &mut [u8])
         × (now (out .exit) ≡ overlay (translate6 (now (packet .entry)) (now (table .entry)) (length (now (out .entry)))) (now (out .entry))) ⌝ }
 {
     kawsarpa_translate_ipv6(packet, table, out)
+}
+
+// The first condition of soundness that a table breaks; 0 exactly when the table is sound.
+#[no_mangle]
+pub extern "C" fn kawsarpa_table_fault(table: &[u8]) -> u64
+    ensures { λ r. ⌜ r ≡ fault (now (table .entry)) ⌝ }
+{
+    table::fault(table)
 }

@@ -3,6 +3,7 @@ pub mod Conditions
 pub mod Prefixes
 pub mod Longest
 pub mod Tables
+pub mod Faults
 pub mod Rows
 pub mod Reading
 pub mod Waypoints
@@ -24,6 +25,7 @@ pub mod NearD4
 pub mod Demand3v4
 pub mod Demand3
 pub mod Samples
+pub mod FaultSamples
 pub mod Worked
 pub mod Premises
 pub mod AnswerTable

@@ -8,6 +8,7 @@ pub mod Rule
 pub mod Policy
 pub mod Match
 pub mod Sound
+pub mod Fault
 pub mod Ipv6
 pub mod Srh
 pub mod Checksum

@@ -48,9 +48,11 @@ policiesWithin t = leb (policies t) 16
 abbrev pub sizeAgrees : List ℕ → Bool
 sizeAgrees t = eqb (length t) (tableSize t)
 
+abbrev pub headerConditions : (limit : ℕ) → List ℕ → List Bool
+headerConditions limit t = formatKnown t ∷ entriesWithin limit t ∷ rulesWithin t ∷ policiesWithin t ∷ sizeAgrees t ∷ []
+
 unfoldable pub headerSound : (limit : ℕ) → List ℕ → Bool
-headerSound limit t =
-    every (formatKnown t ∷ entriesWithin limit t ∷ rulesWithin t ∷ policiesWithin t ∷ sizeAgrees t ∷ [])
+headerSound limit t = every (headerConditions limit t)
 
 -- FIELDS OF ENTRIES, RULES AND POLICIES
 
@@ -123,10 +125,9 @@ prefixBeforeArgs e = leb (Entry.prefixLength e) (Entry.start e)
 abbrev pub prefixBeforeAddress : List ℕ → Bool
 prefixBeforeAddress e = leb (Entry.prefixLength e) (8 * Entry.p e)
 
-unfoldable pub entrySound : (policies : ℕ) → List ℕ → Bool
-entrySound policies e =
-    every
-    (behaviourKnown e
+abbrev pub entryConditions : (policies : ℕ) → List ℕ → List Bool
+entryConditions policies e =
+    behaviourKnown e
     ∷ prefixLengthWithin 128 (Entry.prefixLength e)
     ∷ prefixClear e
     ∷ hopLimitWithin (Entry.hopLimit e)
@@ -139,7 +140,10 @@ entrySound policies e =
     ∷ whereUsed (usesPlaces e) (qWithin (Entry.q e))
     ∷ whereUsed (usesPlaces e) (prefixBeforeAddress e)
     ∷ reservedClear (Entry.reserved e)
-    ∷ [])
+    ∷ []
+
+unfoldable pub entrySound : (policies : ℕ) → List ℕ → Bool
+entrySound policies e = every (entryConditions policies e)
 
 -- A RULE
 
@@ -157,10 +161,9 @@ sourcePrefixClear r = clear 16 (Rule.sourcePrefix r) (8 * Rule.q r)
 abbrev pub waypointsWithin : List ℕ → Bool
 waypointsWithin r = leb (Rule.waypointCount r) 7
 
-unfoldable pub ruleSound : List ℕ → Bool
-ruleSound r =
-    every
-    (prefixLengthWithin 32 (Rule.prefixLength r)
+abbrev pub ruleConditions : List ℕ → List Bool
+ruleConditions r =
+    prefixLengthWithin 32 (Rule.prefixLength r)
     ∷ rulePrefixClear r
     ∷ hopLimitWithin (Rule.hopLimit r)
     ∷ directionKnown (Rule.direction r)
@@ -171,7 +174,10 @@ ruleSound r =
     ∷ sourcePrefixClear r
     ∷ waypointsWithin r
     ∷ reservedClear (Rule.reserved r)
-    ∷ [])
+    ∷ []
+
+unfoldable pub ruleSound : List ℕ → Bool
+ruleSound r = every (ruleConditions r)
 
 -- A POLICY
 
@@ -179,8 +185,11 @@ ruleSound r =
 abbrev pub sidsWithin : List ℕ → Bool
 sidsWithin y = leb 1 (Policy.sidCount y) && leb (Policy.sidCount y) 8
 
+abbrev pub policyConditions : List ℕ → List Bool
+policyConditions y = sidsWithin y ∷ startWithin (Policy.start y) ∷ reservedClear (Policy.reserved y) ∷ []
+
 unfoldable pub policySound : List ℕ → Bool
-policySound y = every (sidsWithin y ∷ startWithin (Policy.start y) ∷ reservedClear (Policy.reserved y) ∷ [])
+policySound y = every (policyConditions y)
 
 -- NO PREFIX WITH ITS LENGTH OCCURS TWICE
 
@@ -194,9 +203,13 @@ sameRulePrefix t i j =
     eqb (Rule.prefixLength (ruleAt t i)) (Rule.prefixLength (ruleAt t j))
     && eqb (number (Rule.prefix (ruleAt t i)) 0 4) (number (Rule.prefix (ruleAt t j)) 0 4)
 
+-- no number before j is the same as j
+abbrev pub fresh : (same : ℕ → ℕ → Bool) → ℕ → Bool
+fresh same j = all (λ i. not (same i j)) j
+
 -- no two of the numbers below n are the same
 unfoldable pub distinct : (same : ℕ → ℕ → Bool) → ℕ → Bool
-distinct same n = all (λ j. all (λ i. not (same i j)) j) n
+distinct same n = all (λ j. fresh same j) n
 
 -- THE TABLE
 

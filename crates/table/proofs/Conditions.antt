@@ -1,22 +1,12 @@
--- Laws of conditions that code tests: joined by `&` one after the other, and of every number below a bound.
-use mathlib.Core.Path.{_≡_, refl, sym, _∙_}
-use mathlib.Core.Bool.{Bool, true, false, _&&_, and-true, and-false, and-assoc}
-use mathlib.Core.List.{List, [], _∷_}
+-- Laws of a condition that code tests of every number below a bound.
+use mathlib.Core.Path.{_≡_, refl}
+use mathlib.Core.Bool.{Bool, true, false, _&&_, and-false}
 use Prim.Native.Nat.{ℕ, zero, suc, _+_, _<_}
 use native.Mathlib.Nat.{not-suc-le-zero}
 use native.Mathlib.Numerals.{add-one}
 use native.Mathlib.Omega.{arith}
 use native.Mathlib.Decide.{ℕ-discrete}
-use Rattle.rules.specs.Sound.{every, all, distinct}
-
--- conditions joined from the left are those of a list
-abbrev pub joined : Bool → List Bool → Bool
-joined b [] = b
-joined b (x ∷ xs) = joined (b && x) xs
-
-pub joined-every : (b : Bool) (xs : List Bool) → joined b xs ≡ every (b ∷ xs)
-joined-every b [] = sym (and-true b)
-joined-every b (x ∷ xs) = joined-every (b && x) xs ∙ and-assoc b x (every xs)
+use Rattle.rules.specs.Sound.{all, distinct}
 
 module _ (f : ℕ → Bool) where
   pub all-none : all f 0 ≡ true

@@ -2,3 +2,4 @@ pub mod Bounds
 mod Conditions
 mod Longest
 mod Order
+mod Trying

@@ -1,16 +1,23 @@
-// No prefix with its length occurs twice among the entries, nor among the rules.
+// The first entry, and the first rule, whose prefix with its length an earlier one has.
 ghost use mathlib.Core.Path.{_≡_};
 ghost use mathlib.Core.Bool.{true, not};
-ghost use Prim.Native.Nat.{_+_, _*_, _≤_};
+ghost use Prim.Native.Nat.{_+_, _*_, _≤_, _<_};
 ghost use lib.Dec.{ltb};
 ghost use lib.ListN.{length};
-ghost use Rattle.rules.specs.Table.{entries, rules, rulesAt, policiesAt};
+ghost use Rattle.rules.specs.Table.{rulesAt, policiesAt};
 ghost use Rattle.rules.specs.Sound.{all, sameEntryPrefix, sameRulePrefix, distinct};
+ghost use Rattle.rules.specs.Fault.{entryRecord, entryRepeated, told, firstFault, entryPrefixesFault, rulePrefixesFault};
 ghost use Rattle.table.specs.Keys.{entryKey};
 use crate::entry;
+use crate::faults;
 use crate::records;
 use crate::rule;
 use prefix::numbers;
+
+// Their conditions' numbers.
+const ENTRY_REPEATED: u8 = 14;
+
+const RULE_REPEATED: u8 = 12;
 
 fn same_entry_prefix(table: &[u8], i: usize, j: usize) -> bool
     requires { ⌜ (16 + 64 * (i + 1) ≤ length (now table)) × (16 + 64 * (j + 1) ≤ length (now table)) ⌝ }
@@ -76,30 +83,30 @@ fn entry_fresh(table: &[u8], j: usize) -> bool
 }
 
 // Each pair of the first n entries is looked at.
-fn entry_pairs_apart(table: &[u8], n: usize) -> bool
-    requires { ⌜ 16 + 64 * n ≤ length (now table) ⌝ }
-    ensures { λ r. ⌜ r ≡ distinct (sameEntryPrefix (now (table .entry))) n ⌝ }
+fn entry_pairs_fault(table: &[u8], n: usize) -> u64
+    requires { ⌜ (16 + 64 * n ≤ length (now table)) × (n < 65536) ⌝ }
+    ensures { λ r. ⌜ r ≡ firstFault (λ j. told entryRecord j (entryRepeated (now (table .entry)) j)) n ⌝ }
 {
     let mut j = 0;
     while j < n {
         if !entry_fresh(table, j) {
-            return false;
+            return faults::told(faults::ENTRY, j, ENTRY_REPEATED);
         }
         j += 1;
     }
-    true
+    0
 }
 
 // Entries that stand in order are quick.
-pub fn entries_apart(table: &[u8]) -> bool
+pub fn entry_prefixes_fault(table: &[u8]) -> u64
     requires { ⌜ rulesAt (now table) ≤ length (now table) ⌝ }
-    ensures { λ r. ⌜ r ≡ distinct (sameEntryPrefix (now (table .entry))) (entries (now (table .entry))) ⌝ }
+    ensures { λ r. ⌜ r ≡ entryPrefixesFault (now (table .entry)) ⌝ }
 {
     let n = records::entries(table);
     if ascending(table, n) {
-        return true;
+        return 0;
     }
-    entry_pairs_apart(table, n)
+    entry_pairs_fault(table, n)
 }
 
 fn same_rule_prefix(table: &[u8], i: usize, j: usize) -> bool
@@ -127,17 +134,17 @@ fn rule_fresh(table: &[u8], j: usize) -> bool
     true
 }
 
-pub fn rules_apart(table: &[u8]) -> bool
+pub fn rule_prefixes_fault(table: &[u8]) -> u64
     requires { ⌜ policiesAt (now table) ≤ length (now table) ⌝ }
-    ensures { λ r. ⌜ r ≡ distinct (sameRulePrefix (now (table .entry))) (rules (now (table .entry))) ⌝ }
+    ensures { λ r. ⌜ r ≡ rulePrefixesFault (now (table .entry)) ⌝ }
 {
     let n = records::rules(table);
     let mut j = 0;
     while j < n {
         if !rule_fresh(table, j) {
-            return false;
+            return faults::told(faults::RULE, j, RULE_REPEATED);
         }
         j += 1;
     }
-    true
+    0
 }

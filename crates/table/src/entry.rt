@@ -1,9 +1,11 @@
-// A SID entry: where its fields lie, and whether it is sound.
+// A SID entry: where its fields lie, and which condition it breaks.
 ghost use mathlib.Core.Path.{_≡_};
 ghost use lib.ListN.{length};
 ghost use Rattle.rules.specs.Entry.{prefix};
-ghost use Rattle.rules.specs.Sound.{behaviourKnown, prefixClear, policyExists, prefixBeforeAddress, entrySound};
+ghost use Rattle.rules.specs.Sound.{behaviourKnown, prefixClear, policyExists, prefixBeforeAddress};
+ghost use Rattle.rules.specs.Fault.{entryBroken};
 ghost use Rattle.table.specs.Results.{Lent};
+use crate::faults::or_broken;
 use crate::fields;
 use crate::records;
 
@@ -87,27 +89,27 @@ fn prefix_before_address(e: &[u8]) -> bool
     octets::wide(e[PREFIX_LENGTH]) <= 8 * octets::wide(e[P])
 }
 
-// The entry is sound in a table of so many policies.
-pub(crate) fn sound(e: &[u8], policies: usize) -> bool
+// The condition that the entry breaks first in a table of so many policies.
+pub(crate) fn broken(e: &[u8], policies: usize) -> u8
     requires { ⌜ length (now e) ≡ 64 ⌝ }
-    ensures { λ r. ⌜ r ≡ entrySound policies (now (e .entry)) ⌝ }
+    ensures { λ r. ⌜ r ≡ entryBroken policies (now (e .entry)) ⌝ }
 {
     let behaviour = e[BEHAVIOUR];
     let uses_session = !(behaviour == END);
     let uses_start = behaviour == END_M_GTP6_E;
     let uses_places = behaviour == END_M_GTP4_E;
     let bits = e[PREFIX_LENGTH];
-    behaviour_known(e)
-        & (bits <= 128)
-        & prefix_clear(e)
-        & (1 <= e[HOP_LIMIT])
-        & (!uses_session | fields::direction_known(e[DIRECTION]))
-        & (!uses_session | fields::session_known(e[SESSION]))
-        & policy_exists(e, policies)
-        & (!uses_start | fields::start_within(e[START]))
-        & (!uses_start | (bits <= e[START]))
-        & (!uses_places | (e[P] <= fields::P_MOST))
-        & (!uses_places | (e[Q] <= fields::Q_MOST))
-        & (!uses_places | prefix_before_address(e))
-        & (e[RESERVED] == 0)
+    let b = or_broken(0, behaviour_known(e), 1);
+    let b = or_broken(b, bits <= 128, 2);
+    let b = or_broken(b, prefix_clear(e), 3);
+    let b = or_broken(b, 1 <= e[HOP_LIMIT], 4);
+    let b = or_broken(b, !uses_session | fields::direction_known(e[DIRECTION]), 5);
+    let b = or_broken(b, !uses_session | fields::session_known(e[SESSION]), 6);
+    let b = or_broken(b, policy_exists(e, policies), 7);
+    let b = or_broken(b, !uses_start | fields::start_within(e[START]), 8);
+    let b = or_broken(b, !uses_start | (bits <= e[START]), 9);
+    let b = or_broken(b, !uses_places | (e[P] <= fields::P_MOST), 10);
+    let b = or_broken(b, !uses_places | (e[Q] <= fields::Q_MOST), 11);
+    let b = or_broken(b, !uses_places | prefix_before_address(e), 12);
+    or_broken(b, e[RESERVED] == 0, 13)
 }

@@ -1,7 +1,8 @@
-// A policy: where its fields lie, and whether it is sound.
+// A policy: where its fields lie, and which condition it breaks.
 ghost use mathlib.Core.Path.{_≡_};
 ghost use lib.ListN.{length};
-ghost use Rattle.rules.specs.Sound.{policySound};
+ghost use Rattle.rules.specs.Fault.{policyBroken};
+use crate::faults::or_broken;
 use crate::fields;
 
 pub const SID_COUNT: usize = 0;
@@ -12,11 +13,12 @@ pub const RESERVED: usize = 2;
 
 pub const SIDS: usize = 16;
 
-pub(crate) fn sound(y: &[u8]) -> bool
+// The condition that the policy breaks first.
+pub(crate) fn broken(y: &[u8]) -> u8
     requires { ⌜ length (now y) ≡ 288 ⌝ }
-    ensures { λ r. ⌜ r ≡ policySound (now (y .entry)) ⌝ }
+    ensures { λ r. ⌜ r ≡ policyBroken (now (y .entry)) ⌝ }
 {
-    ((1 <= y[SID_COUNT]) & (y[SID_COUNT] <= 8))
-        & fields::start_within(y[START])
-        & (y[RESERVED] == 0)
+    let b = or_broken(0, (1 <= y[SID_COUNT]) & (y[SID_COUNT] <= 8), 1);
+    let b = or_broken(b, fields::start_within(y[START]), 2);
+    or_broken(b, y[RESERVED] == 0, 3)
 }

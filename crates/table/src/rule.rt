@@ -1,9 +1,11 @@
-// An IPv4 rule: where its fields lie, and whether it is sound.
+// An IPv4 rule: where its fields lie, and which condition it breaks.
 ghost use mathlib.Core.Path.{_≡_};
 ghost use lib.ListN.{length};
 ghost use Rattle.rules.specs.Rule.{prefix};
-ghost use Rattle.rules.specs.Sound.{rulePrefixClear, sidPrefixClear, sourcePrefixClear, ruleSound};
+ghost use Rattle.rules.specs.Sound.{rulePrefixClear, sidPrefixClear, sourcePrefixClear};
+ghost use Rattle.rules.specs.Fault.{ruleBroken};
 ghost use Rattle.table.specs.Results.{Lent};
+use crate::faults::or_broken;
 use crate::fields;
 use crate::records;
 
@@ -65,19 +67,20 @@ fn source_prefix_clear(r: &[u8]) -> bool
     )
 }
 
-pub(crate) fn sound(r: &[u8]) -> bool
+// The condition that the rule breaks first.
+pub(crate) fn broken(r: &[u8]) -> u8
     requires { ⌜ length (now r) ≡ 160 ⌝ }
-    ensures { λ b. ⌜ b ≡ ruleSound (now (r .entry)) ⌝ }
+    ensures { λ b. ⌜ b ≡ ruleBroken (now (r .entry)) ⌝ }
 {
-    (r[PREFIX_LENGTH] <= 32)
-        & prefix_clear(r)
-        & (1 <= r[HOP_LIMIT])
-        & fields::direction_known(r[DIRECTION])
-        & fields::session_known(r[SESSION])
-        & (r[P] <= fields::P_MOST)
-        & (r[Q] <= fields::Q_MOST)
-        & sid_prefix_clear(r)
-        & source_prefix_clear(r)
-        & (r[WAYPOINT_COUNT] <= 7)
-        & (r[RESERVED] == 0)
+    let b = or_broken(0, r[PREFIX_LENGTH] <= 32, 1);
+    let b = or_broken(b, prefix_clear(r), 2);
+    let b = or_broken(b, 1 <= r[HOP_LIMIT], 3);
+    let b = or_broken(b, fields::direction_known(r[DIRECTION]), 4);
+    let b = or_broken(b, fields::session_known(r[SESSION]), 5);
+    let b = or_broken(b, r[P] <= fields::P_MOST, 6);
+    let b = or_broken(b, r[Q] <= fields::Q_MOST, 7);
+    let b = or_broken(b, sid_prefix_clear(r), 8);
+    let b = or_broken(b, source_prefix_clear(r), 9);
+    let b = or_broken(b, r[WAYPOINT_COUNT] <= 7, 10);
+    or_broken(b, r[RESERVED] == 0, 11)
 }

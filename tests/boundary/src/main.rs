@@ -4,6 +4,7 @@
 
 mod bench;
 mod cases;
+mod faults;
 mod mutate;
 mod place;
 mod progress;
@@ -27,7 +28,7 @@ const ABOUT: &str =
 const STATUS: &str = "exit status: 0 all well, 1 a difference, a gap or a fault, 2 wrong usage\n";
 
 /// Each command with its options and its help.
-const COMMANDS: [(&str, &[&str], &str); 6] = [
+const COMMANDS: [(&str, &[&str], &str); 7] = [
     (
         "cases",
         &["--seed", "--cases", "--threads"],
@@ -42,6 +43,14 @@ const COMMANDS: [(&str, &[&str], &str); 6] = [
         &["--seed", "--index", "--mutation"],
         "  boundary case --seed N --index I [--mutation K]
       make one call and print both answers, in words and octets
+",
+    ),
+    (
+        "faults",
+        &["--seed", "--cases", "--first"],
+        "  boundary faults --seed N --cases M [--first I]
+      ask for the fault of M tables, sound ones and others, from table I on (0 if
+      not given); print how often the library told each condition
 ",
     ),
     (
@@ -153,6 +162,7 @@ fn run(words: &[String], out: &mut dyn Write) -> Result<(), Failure> {
     match name {
         "cases" => run_cases(options, out),
         "case" => run_case(options, out),
+        "faults" => run_faults(options, out),
         "trips" => run_trips(options, out),
         "threads" => run_threads(options, out),
         "stack" => run_stack(options, out),
@@ -249,6 +259,23 @@ fn run_case(options: &Options, out: &mut dyn Write) -> Result<(), Failure> {
         Some(why) => Err(Failure::Check(why)),
         None => Ok(writeln!(out, "no difference")?),
     }
+}
+
+fn run_faults(options: &Options, out: &mut dyn Write) -> Result<(), Failure> {
+    let seed = options.get("--seed")?;
+    let cases = count(options, "--cases", None)?;
+    let first = options.get_or("--first", 0);
+    let faults = faults::run(seed, first..first.saturating_add(cases)).map_err(Failure::Check)?;
+    writeln!(out, "{faults}")?;
+    // One table alone is looked at again, and has no more than one fault.
+    if cases > 1 {
+        faults.judge().map_err(Failure::Check)?;
+    }
+    writeln!(
+        out,
+        "seed {seed}: {cases} tables, each fault as it should be"
+    )?;
+    Ok(())
 }
 
 fn run_trips(options: &Options, out: &mut dyn Write) -> Result<(), Failure> {

@@ -14,6 +14,11 @@ pub enum Place {
         seed: u64,
         index: u64,
     },
+    /// A table that is asked for its fault.
+    Table {
+        seed: u64,
+        index: u64,
+    },
     /// The trip by this name.
     Flow5,
     /// The table and packets that threads share.
@@ -37,6 +42,7 @@ impl fmt::Display for Place {
                 mutation,
             } => write!(f, "seed {seed} index {index} mutation {mutation}"),
             Place::Trip { seed, index } => write!(f, "seed {seed} trip {index}"),
+            Place::Table { seed, index } => write!(f, "seed {seed} table {index}"),
             Place::Flow5 => write!(f, "flow 5 with the reflective bit"),
             Place::Shared { seed, index } => write!(f, "seed {seed} shared case {index}"),
         }
@@ -68,6 +74,9 @@ impl fmt::Display for Command {
             }
             Place::Trip { seed, index } => {
                 write!(f, "boundary trips --seed {seed} --first {index} --cases 1")
+            }
+            Place::Table { seed, index } => {
+                write!(f, "boundary faults --seed {seed} --first {index} --cases 1")
             }
             Place::Flow5 => write!(f, "boundary trips --seed 1 --cases 1"),
             Place::Shared { seed, index } => write!(

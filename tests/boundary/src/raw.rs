@@ -36,6 +36,7 @@ mod library {
             out: *mut u8,
             out_len: usize,
         ) -> u64;
+        pub fn kawsarpa_table_fault(table: *const u8, table_len: usize) -> u64;
     }
 }
 
@@ -72,6 +73,12 @@ mod system {
 }
 
 /// A function that the library exports.
+/// The fault of a table.
+pub fn table_fault(table: &[u8]) -> u64 {
+    // SAFETY: a slice is what the header asks for: not null, valid for its count.
+    unsafe { library::kawsarpa_table_fault(table.as_ptr(), table.len()) }
+}
+
 #[derive(Clone, Copy, Debug, PartialEq, Eq)]
 pub enum Export {
     Ipv6,

@@ -3,6 +3,7 @@
 //!
 //! - [`translate`]: the two calls, [`translate_ipv6`] and [`translate_ipv4`];
 //! - [`table`]: the table octets and what makes a table sound;
+//! - [`fault`]: which condition a table breaks first;
 //! - [`ipv6`], [`ipv4`], [`udp`], [`gtpu`], [`args`]: what is read;
 //! - [`outgoing`]: what is written;
 //! - [`answer`]: the answer numbers and the packed answer;
@@ -14,6 +15,7 @@ pub mod answer;
 pub mod args;
 pub mod command;
 pub mod coverage;
+pub mod fault;
 pub mod generate;
 pub mod gtpu;
 pub mod ipv4;

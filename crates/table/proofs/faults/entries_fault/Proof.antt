@@ -1,0 +1,66 @@
+use mathlib.Core.Path.{_≡_, refl, sym, ap, _∙_}
+use mathlib.Core.Bool.{false}
+use mathlib.Core.List.{List}
+use Prim.Native.Nat.{ℕ, _≤_, _-_}
+use native.Mathlib.Omega.{arith}
+use lib.Dec.{eqb}
+use borrow.Author.Tests.{ne-eqb}
+use Rattle.rules.specs.Table.{policies, entryAt}
+use Rattle.rules.specs.Fault.{entryRecord, entryBroken, told, firstFault}
+use Rattle.rules.proofs.Faults.{none-told}
+use Rattle.table.proofs.Trying.{told-none, first-none, first-more, first-found, first-done}
+use borrow.Author.Needs.{needs}
+use Rattle.table.proofs.faults.entries_fault.Statement.{statement}
+use Rattle.table.proofs.faults.entries_fault.Tie as tie
+
+abbrev faultAt : (t : List ℕ) (i : ℕ) → ℕ
+faultAt t i = told entryRecord i (entryBroken (policies t) (entryAt t i))
+
+abbrev Inv-loop : tie.InvT-loop
+Inv-loop table count policyCount i₀ i = (i ≤ count) × (firstFault (faultAt table) i ≡ 0)
+
+abbrev μ-loop : tie.MeasureT-loop
+μ-loop table count policyCount i₀ i = count - i
+
+loop-holds : tie.Need-loop-holds Inv-loop μ-loop
+loop-holds c = (search needs, first-none _)
+
+returns : tie.Need-returns Inv-loop μ-loop
+returns c =
+    let b = c .before .before in
+    let l = b .before .before .before in
+    let t : List ℕ = l .before .before .before .before .args .table .now in
+    let i : ℕ = l .loop .i in
+    let e : b .broken .result ≡ entryBroken (policies t) (entryAt t i) = rw (b .broken .ensures, b .before .entry-at .ensures .same, l .before .policies .ensures .value) refl in
+    let found : eqb (faultAt t i) 0 ≡ false = none-told entryRecord i (entryBroken (policies t) (entryAt t i)) ∙ ne-eqb _ _ (λ z. c .before .if1 .taken (e ∙ z)) in
+    c .told .ensures ∙ ap (told entryRecord i) e ∙ sym (first-found (faultAt t) _ i (omega arith) (l .loop .inv .1) found)
+
+loop-again : tie.Need-loop-again Inv-loop μ-loop
+loop-again c =
+    let b = c .before in
+    let l = b .before .before .before in
+    let t : List ℕ = l .before .before .before .before .args .table .now in
+    let i : ℕ = l .loop .i in
+    let e : b .broken .result ≡ entryBroken (policies t) (entryAt t i) = rw (b .broken .ensures, b .before .entry-at .ensures .same, l .before .policies .ensures .value) refl in
+    (search needs, first-more (faultAt t) i (l .loop .inv .1) (ap (told entryRecord i) (sym e ∙ c .if1 .left) ∙ told-none entryRecord i))
+
+returns-2 : tie.Need-returns-2 Inv-loop μ-loop
+returns-2 c = sym (first-done _ _ _ (c .before .loop .inv .1) (omega arith))
+
+pub entries-fault-spec : {M : Type 1} → statement M
+entries-fault-spec =
+    tie.close
+    (tie.spec
+    Inv-loop
+    μ-loop
+    (λ c κs. search needs)
+    (λ c κs. search needs)
+    loop-holds
+    (λ c κs. search needs)
+    (λ c κs. search needs)
+    (λ c κs. search needs)
+    returns
+    (λ c. search needs)
+    (λ c. search needs)
+    loop-again
+    returns-2)
