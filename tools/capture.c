@@ -104,10 +104,8 @@ void capture_close(struct capture_reader *reader)
 
 void capture_say_counts(FILE *to, const struct capture_counts *counts)
 {
-    fprintf(to, "%lu frames: %lu IP packets, %lu not IP, %lu snapped\n", counts->frames, counts->packets, counts->not_ip,
-            counts->snapped);
-    if (counts->padded > 0)
-        fprintf(to, "%lu packets had padding of the link behind them, which was cut\n", counts->padded);
+    fprintf(to, "frames %lu: IP packets %lu, not IP %lu, snapped %lu; padding cut %lu\n", counts->frames, counts->packets, counts->not_ip,
+            counts->snapped, counts->padded);
 }
 
 /*

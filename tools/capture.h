@@ -37,7 +37,7 @@ bool capture_next(struct capture_reader *reader, struct capture_packet *packet);
 
 void capture_close(struct capture_reader *reader);
 
-/* Two lines about the frames that were read. */
+/* A line about the frames that were read. */
 void capture_say_counts(FILE *to, const struct capture_counts *counts);
 
 /* Begins a capture of raw IP packets in an open file; false: the write failed. */

@@ -4,7 +4,7 @@
 #include <unistd.h>
 
 /* The clock is asked once in this many packets. */
-enum { PACKETS_A_LOOK = 1024 };
+enum { PACKETS_A_LOOK = 256 };
 
 static struct timespec now(void)
 {

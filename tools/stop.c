@@ -3,9 +3,8 @@
 #include <stdlib.h>
 
 #include "commands.h"
-#include "file.h"
 #include "kawsarpa.h"
-#include "say.h"
+#include "table.h"
 
 uint64_t stop_call(const struct stop *stop, unsigned int version, const uint8_t *packet, size_t length, uint8_t out[STOP_ROOM])
 {
@@ -13,26 +12,13 @@ uint64_t stop_call(const struct stop *stop, unsigned int version, const uint8_t 
                         : kawsarpa_call_ipv6(packet, length, stop->table, stop->table_length, out, STOP_ROOM);
 }
 
-/* Row 1 comes before all that looks at the packet: no packet at all is enough to ask. */
-static bool is_sound(const struct stop *stop)
-{
-    const uint64_t answer = kawsarpa_call_ipv6(NULL, 0, stop->table, stop->table_length, NULL, 0);
-    return kawsarpa_answer_number(answer) != KAWSARPA_ANSWER_UNSOUND;
-}
-
 int stop_load(struct stop *stop, const char *name)
 {
-    struct octets octets;
-    const int code = file_read(name, kawsarpa_table_size(KAWSARPA_ENTRIES_MAX, KAWSARPA_RULES_MAX, KAWSARPA_POLICIES_MAX), &octets);
-    if (code != EXIT_DONE)
-        return code;
-    *stop = (struct stop){octets.at, octets.count};
-    if (is_sound(stop))
-        return EXIT_DONE;
-    say_error_at(file_shown_name(name, "standard input"), 0, "the table is not sound: every packet would be refused with answer 1; "
-                 "`kawsarpa check' says why");
-    stop_free(stop);
-    return EXIT_INPUT;
+    struct octets table;
+    const int code = table_read_sound(name, &table);
+    if (code == EXIT_DONE)
+        *stop = (struct stop){table.at, table.count};
+    return code;
 }
 
 void stop_free(struct stop *stop)

@@ -107,7 +107,7 @@ static bool compare(FILE *to, const struct packet_reading *in, const struct pack
     unsigned int differing = 0;
     for (size_t i = 0; i < sizeof parts / sizeof parts[0]; i++)
         if (!parts[i].same)
-            fprintf(to, "%s%s", differing++ == 0 ? "  arrived, but it differs in: " : ", ", parts[i].name);
+            fprintf(to, "%s%s", differing++ == 0 ? "  arrived, but not as it went in: " : ", ", parts[i].name);
     if (differing == 0)
         fprintf(to, "  arrived with the destination, TEID, QFI, R, traffic class and %zu inner octets that went in", in->inner_length);
     fputc('\n', to);
