@@ -4,7 +4,7 @@ SHELL := bash
 .SHELLFLAGS := -eu -o pipefail -c
 .DELETE_ON_ERROR:
 .NOTPARALLEL:
-.PHONY: all prove test ci toolchain tools format second staticlib library programs boundary fuzz mutants peers clean
+.PHONY: all prove test ci toolchain tools format second staticlib library programs boundary fuzz mutants peers tool tool-test clean
 
 archive := target/staticlib/libkawsarpa.a
 second := tests/second/target/release/second
@@ -17,7 +17,7 @@ prove: toolchain
 	rt check
 
 # Everything. The library is built from what `rt ci` proved, so that is first; its count of what passed is said again at the end.
-test: toolchain tools format second ci library programs boundary
+test: toolchain tools format second ci library programs boundary tool-test
 	@tail -n 1 target/ci.log
 
 # every proof from nothing, and the must-fail edits; `rt ci` removes target/, so its output goes there afterwards
@@ -36,6 +36,9 @@ tools:
 	@missing=; \
 	for pair in gcc:gcc g++:g++ nm:binutils cargo:cargo valgrind:valgrind; do \
 	  command -v "$${pair%%:*}" >/dev/null || missing="$$missing $${pair#*:}"; \
+	done; \
+	for pair in $(tool_needs); do \
+	  command -v "$${pair%%:*}" >/dev/null || [ -e "$${pair%%:*}" ] || missing="$$missing $${pair#*:}"; \
 	done; \
 	if [ -n "$$missing" ]; then \
 	  echo "installing$$missing"; apt-get update -qq && apt-get install -y -qq $$missing; \
@@ -78,6 +81,37 @@ peers: tools staticlib
 # each rule of the second program changed in one place: the library's answers must show every change
 mutants: tools staticlib
 	tests/mutants/run.sh $(archive)
+
+# the command-line tool, and the same with sanitizers for its tests
+tool_needs := /usr/include/cyaml/cyaml.h:libcyaml-dev /usr/include/yaml.h:libyaml-dev /usr/include/pcap.h:libpcap-dev clang-tidy:clang-tidy \
+  python3:python3
+tool_sources := $(wildcard tools/*.c)
+tool_flags := -std=c11 -D_GNU_SOURCE -g -Wall -Wextra -Wpedantic -Wshadow -Wconversion -Werror -I include
+tool_libraries := -lcyaml -lyaml -lpcap
+sanitizers := -fsanitize=address,undefined -fno-sanitize-recover=all
+
+tool: tools staticlib target/tools/kawsarpa target/tools/kawsarpa-asan
+
+$(archive): | staticlib ;
+
+target/tools/kawsarpa: $(tool_sources:tools/%.c=target/tools/plain/%.o) $(archive)
+	gcc -o $@ $^ $(tool_libraries)
+
+target/tools/kawsarpa-asan: $(tool_sources:tools/%.c=target/tools/asan/%.o) $(archive)
+	gcc $(sanitizers) -o $@ $^ $(tool_libraries)
+
+target/tools/plain/%.o: tools/%.c $(wildcard tools/*.h) include/kawsarpa.h
+	@mkdir -p $(@D)
+	gcc $(tool_flags) $(CPPFLAGS) -O2 -c -o $@ $<
+
+target/tools/asan/%.o: tools/%.c $(wildcard tools/*.h) include/kawsarpa.h
+	@mkdir -p $(@D)
+	gcc $(tool_flags) $(CPPFLAGS) $(sanitizers) -O1 -c -o $@ $<
+
+# the tool's sources read by clang-tidy, and its commands driven, with the sanitizers
+tool-test: tool second
+	clang-tidy --quiet $(tool_sources) -- $(tool_flags) $(CPPFLAGS)
+	tests/tools/tables.sh target/tools/kawsarpa-asan $(second)
 
 clean:
 	rm -rf target tests/second/target tests/boundary/target
