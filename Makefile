@@ -4,7 +4,7 @@ SHELL := bash
 .SHELLFLAGS := -eu -o pipefail -c
 .DELETE_ON_ERROR:
 .NOTPARALLEL:
-.PHONY: all prove test ci toolchain tools format second staticlib library programs boundary fuzz mutants peers tool tool-test clean
+.PHONY: all prove test ci toolchain tools format second staticlib library programs boundary fuzz mutants peers tool tool-test demo demo-packages clean
 
 archive := target/staticlib/libkawsarpa.a
 second := tests/second/target/release/second
@@ -31,18 +31,22 @@ toolchain:
 	  echo "toolchain: expected '$$(cat rt.version)', found '$$found'" >&2; exit 1; \
 	fi
 
-# what the tests beside the proofs need: Debian's packages, where one is missing
-tools:
+# Debian's packages of a list of NAME:PACKAGE, where the command or file NAME is missing
+define install
 	@missing=; \
-	for pair in gcc:gcc g++:g++ nm:binutils cargo:cargo valgrind:valgrind; do \
-	  command -v "$${pair%%:*}" >/dev/null || missing="$$missing $${pair#*:}"; \
-	done; \
-	for pair in $(tool_needs); do \
+	for pair in $(1); do \
 	  command -v "$${pair%%:*}" >/dev/null || [ -e "$${pair%%:*}" ] || missing="$$missing $${pair#*:}"; \
 	done; \
-	if [ -n "$$missing" ]; then \
+	if [ -n "$$missing" ] && [ "$$(id -u)" -ne 0 ]; then \
+	  echo "missing; as root: apt-get install$$missing" >&2; exit 1; \
+	elif [ -n "$$missing" ]; then \
 	  echo "installing$$missing"; apt-get update -qq && apt-get install -y -qq $$missing; \
 	fi
+endef
+
+# what the tests beside the proofs need
+tools:
+	$(call install,gcc:gcc g++:g++ nm:binutils cargo:cargo valgrind:valgrind $(tool_needs))
 
 format:
 	rt fmt --check
@@ -112,6 +116,15 @@ target/tools/asan/%.o: tools/%.c $(wildcard tools/*.h) include/kawsarpa.h
 tool-test: tool second
 	clang-tidy --quiet $(tool_sources) -- $(tool_flags) $(CPPFLAGS)
 	tests/tools/tables.sh target/tools/kawsarpa-asan $(second)
+	tests/tools/captures.sh target/tools/kawsarpa-asan
+	python3 docs/trip.py | cmp - docs/trip.svg
+
+# the yard example: tables compiled, captures sent through whole trips; root is needed only where a package is missing
+demo: demo-packages staticlib target/tools/kawsarpa
+	@examples/yard/demo.sh target/tools/kawsarpa
+
+demo-packages:
+	$(call install,gcc:gcc $(filter-out clang-tidy:%,$(tool_needs)))
 
 clean:
 	rm -rf target tests/second/target tests/boundary/target

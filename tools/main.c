@@ -20,6 +20,8 @@ static const struct command commands[] = {
     {"show", "print the description of a table", command_show},
     {"check", "say whether a table is sound, and what it does to packet lengths", command_check},
     {"explain", "say what an answer or a fault of a table means", command_explain},
+    {"translate", "send the packets of a capture through a table", command_translate},
+    {"trip", "send the packets of a capture through every stop of a trip", command_trip},
 };
 
 enum { COMMANDS = sizeof commands / sizeof commands[0] };

@@ -1,5 +1,5 @@
 #!/usr/bin/env bash
-# captures.sh TOOL: drives the commands translate and trip over captures of every link type and over bad ones, with the yard's tables.
+# captures.sh TOOL: drives the commands translate and trip over captures of every link type, bad ones and mutated ones, with the yard's tables.
 set -eu
 
 if [ $# -ne 1 ]; then
@@ -212,5 +212,15 @@ complained "standard output: Broken pipe"
     "$tool" translate --table "$work/office" - "$work/out/sent.pcap" >"$work/stdout" 2>"$work/stderr" || fail "a slow capture"
 complained "packets ..."
 printed "    3000   0 sent"
+
+# the field guide has a row for each answer, under its name
+for number in {0..16}; do
+    name=$("$tool" explain "$number" | sed -n "s/^$number: //p")
+    grep -qF "| $number $name |" "$here/../../docs/FIELD-GUIDE.md" || fail "no row in the field guide: $number $name"
+    checks=$((checks + 1))
+done
+
+# hostile captures
+python3 "$here/mutated.py" "$tool" "$work"/{office,gate,mast,crane} "$work" 1 200
 
 echo "captures.sh: all $checks checks hold"
