@@ -115,7 +115,7 @@ void capture_say_counts(FILE *to, const struct capture_counts *counts)
 
 enum { SNAP_LENGTH = 262144, LINKTYPE_RAW = 101 };
 
-static const uint32_t MAGIC_NANOSECONDS = 0xA1B23C4D;
+static const uint32_t magic_nanoseconds = 0xA1B23C4D;
 
 bool capture_begin(FILE *file)
 {
@@ -123,7 +123,7 @@ bool capture_begin(FILE *file)
         uint32_t magic;
         uint16_t major, minor;
         uint32_t reserved[2], snap_length, link_type;
-    } header = {MAGIC_NANOSECONDS, PCAP_VERSION_MAJOR, PCAP_VERSION_MINOR, {0, 0}, SNAP_LENGTH, LINKTYPE_RAW};
+    } header = {magic_nanoseconds, PCAP_VERSION_MAJOR, PCAP_VERSION_MINOR, {0, 0}, SNAP_LENGTH, LINKTYPE_RAW};
     return fwrite(&header, sizeof header, 1, file) == 1;
 }
 

@@ -24,7 +24,7 @@ struct link {
     size_t header;
 };
 
-static const struct link LINKS[] = {
+static const struct link links[] = {
     {DLT_EN10MB, 12, 14},
     {DLT_LINUX_SLL, 14, 16},
     {DLT_LINUX_SLL2, 0, 20},
@@ -32,9 +32,9 @@ static const struct link LINKS[] = {
 
 static const struct link *find_link(int type)
 {
-    for (size_t i = 0; i < sizeof LINKS / sizeof LINKS[0]; i++)
-        if (LINKS[i].type == type)
-            return &LINKS[i];
+    for (size_t i = 0; i < sizeof links / sizeof links[0]; i++)
+        if (links[i].type == type)
+            return &links[i];
     return NULL;
 }
 

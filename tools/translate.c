@@ -137,23 +137,24 @@ static error_t parse(int key, char *value, struct argp_state *state)
     }
 }
 
-static const struct argp_option OPTIONS[] = {
-    {"table", OPTION_TABLE, "TABLE", 0, "The compiled table to translate by", 0},
-    {"trace", OPTION_TRACE, NULL, 0, "Print a line for each packet", 0},
-    {0},
+static const struct argp_option option_list[] = {
+    {"table", OPTION_TABLE, "TABLE", 0, "the table to translate by", 0},
+    {"trace", OPTION_TRACE, NULL, 0, "print a line for each packet", 0},
+    {NULL, 0, NULL, 0, NULL, 0},
 };
 
-static const char DOC[] =
-    "Translate the IP packets of a capture, and count the answers."
-    "\vIN.pcap is a pcap or pcapng capture of Ethernet, Linux cooked or raw IP. OUT.pcap gets what is sent as raw IP, with the times of "
-    "the packets that went in. Frames that are not IP or are snapped are left out and counted; padding of the link is cut.";
+static const char words[] =
+    "Makes the call of its IP version for each packet of a capture, and counts the answers. IN.pcap is a pcap or pcapng capture of Ethernet, "
+    "Linux cooked or raw IP. OUT.pcap gets what is sent, as raw IP with the times of the packets that went in. Frames that are not IP or "
+    "are snapped are left out and counted; padding of the link is cut off. TABLE, IN.pcap and OUT.pcap may be `-'."
+    "\vExit codes: 0 written; 1 the capture is bad, or the table not sound; 2 wrong usage; 3 the system failed.";
 
-static const struct argp ARGP = {OPTIONS, parse, "--table TABLE IN.pcap OUT.pcap", DOC, NULL, NULL, NULL};
+static const struct argp argp = {option_list, parse, "--table TABLE IN.pcap OUT.pcap", words, NULL, NULL, NULL};
 
 int command_translate(int argc, char **argv)
 {
     struct arguments arguments = {NULL, NULL, NULL, false};
-    argp_parse(&ARGP, argc, argv, 0, NULL, &arguments);
+    argp_parse(&argp, argc, argv, 0, NULL, &arguments);
     struct run run = {.account = strcmp(arguments.out, "-") == 0 ? stderr : stdout, .trace = arguments.trace};
     int code = stop_load(&run.stop, arguments.table);
     if (code != EXIT_DONE)

@@ -77,7 +77,7 @@ static struct parcel walk(const struct trip *trip, const struct capture_packet *
 
 static bool same_address(const struct packet_reading *in, const struct packet_reading *out, const uint8_t *a, const uint8_t *b)
 {
-    return in->version == out->version && memcmp(a, b, in->version == 4 ? 4 : 16) == 0;
+    return in->version != 0 && in->version == out->version && memcmp(a, b, in->version == 4 ? 4 : 16) == 0;
 }
 
 static bool same_inner(const struct packet_reading *in, const struct packet_reading *out)
@@ -235,25 +235,26 @@ static error_t parse(int key, char *value, struct argp_state *state)
     }
 }
 
-static const struct argp_option OPTIONS[] = {
-    {"near", OPTION_NEAR, "TABLE", 0, "The table of the gateway where packets go in", 0},
-    {"via", OPTION_VIA, "TABLE", 0, "The table of a waypoint; given once for each, in order of travel", 0},
-    {"far", OPTION_FAR, "TABLE", 0, "The table of the gateway where packets come out", 0},
-    {"output", 'o', "OUT.pcap", 0, "Keep what comes out, as a capture of raw IP", 0},
-    {0},
+static const struct argp_option option_list[] = {
+    {"near", OPTION_NEAR, "TABLE", 0, "the table of the gateway where packets go in", 0},
+    {"via", OPTION_VIA, "TABLE", 0, "the table of a waypoint; given once for each, in order of travel", 0},
+    {"far", OPTION_FAR, "TABLE", 0, "the table of the gateway where packets come out", 0},
+    {"output", 'o', "OUT.pcap", 0, "keep what comes out, as raw IP with the times of the packets that went in", 0},
+    {NULL, 0, NULL, 0, NULL, 0},
 };
 
-static const char DOC[] =
-    "Send the packets of a capture through a trip, and show what leaves each stop."
-    "\vTables are compiled ones. IN.pcap is a pcap or pcapng capture of Ethernet, Linux cooked or raw IP. OUT.pcap gets raw IP, with the "
-    "times of the packets that went in. The exit code is 0 only if every IP packet arrived with what went in.";
+static const char words[] =
+    "Sends each IP packet of a capture through all stops of a trip, prints what leaves each, and compares what comes out with what went in. "
+    "IN.pcap is a pcap or pcapng capture of Ethernet, Linux cooked or raw IP. A TABLE, IN.pcap and OUT.pcap may be `-'."
+    "\vExit codes: 0 every packet arrived with what went in; 1 one did not, the capture is bad, or a table not sound; 2 wrong usage; "
+    "3 the system failed.";
 
-static const struct argp ARGP = {OPTIONS, parse, "--near TABLE [--via TABLE]... --far TABLE IN.pcap", DOC, NULL, NULL, NULL};
+static const struct argp argp = {option_list, parse, "--near TABLE [--via TABLE]... --far TABLE IN.pcap", words, NULL, NULL, NULL};
 
 int command_trip(int argc, char **argv)
 {
     struct arguments arguments = {0};
-    argp_parse(&ARGP, argc, argv, 0, NULL, &arguments);
+    argp_parse(&argp, argc, argv, 0, NULL, &arguments);
     const bool to_standard_output = arguments.out != NULL && strcmp(arguments.out, "-") == 0;
     struct trip trip = {.account = to_standard_output ? stderr : stdout};
     int code = add_stops(&trip, &arguments);

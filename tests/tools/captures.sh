@@ -220,6 +220,12 @@ for number in {0..16}; do
     checks=$((checks + 1))
 done
 
+# the demo, and what README.md shows of it
+"$yard/demo.sh" "$tool" >"$work/stdout" 2>"$work/stderr" || fail "the demo failed"
+while IFS= read -r line; do
+    [ "$line" = "..." ] || printed "$line"
+done < <(sed -n '/^    \$ kawsarpa trip/,/^$/s/^    //p' "$here/../../README.md")
+
 # hostile captures
 python3 "$here/mutated.py" "$tool" "$work"/{office,gate,mast,crane} "$work" 1 200
 
