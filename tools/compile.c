@@ -1,7 +1,6 @@
 /* kawsarpa compile: the octets of a table, made of its description. */
 #include <argp.h>
 #include <stdlib.h>
-#include <sys/stat.h>
 
 #include "build.h"
 #include "commands.h"
@@ -126,22 +125,13 @@ static int compile(const struct text_source *source, const struct octets *text, 
     return code;
 }
 
-/* Whether two names are of one file, which the table would replace. */
-static bool same_file(const char *a, const char *b)
-{
-    struct stat status_a;
-    struct stat status_b;
-    return stat(a, &status_a) == 0 && stat(b, &status_b) == 0 && S_ISREG(status_a.st_mode) && status_a.st_dev == status_b.st_dev &&
-           status_a.st_ino == status_b.st_ino;
-}
-
 int command_compile(int argc, char **argv)
 {
     struct options options = {NULL, NULL};
     struct octets text;
     struct marks marks;
     argp_parse(&argp, argc, argv, 0, NULL, &options);
-    if (same_file(options.description, options.table)) {
+    if (file_same(options.description, options.table)) {
         say_error_at(options.table, 0, "is the description, and would be replaced by the table");
         return EXIT_USAGE;
     }

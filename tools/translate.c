@@ -155,6 +155,8 @@ int command_translate(int argc, char **argv)
 {
     struct arguments arguments = {NULL, NULL, NULL, false};
     argp_parse(&argp, argc, argv, 0, NULL, &arguments);
+    if (capture_is_input(arguments.out, arguments.in))
+        return EXIT_USAGE;
     struct run run = {.account = strcmp(arguments.out, "-") == 0 ? stderr : stdout, .trace = arguments.trace};
     int code = stop_load(&run.stop, arguments.table);
     if (code != EXIT_DONE)

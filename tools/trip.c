@@ -255,6 +255,8 @@ int command_trip(int argc, char **argv)
 {
     struct arguments arguments = {0};
     argp_parse(&argp, argc, argv, 0, NULL, &arguments);
+    if (arguments.out != NULL && capture_is_input(arguments.out, arguments.in))
+        return EXIT_USAGE;
     const bool to_standard_output = arguments.out != NULL && strcmp(arguments.out, "-") == 0;
     struct trip trip = {.account = to_standard_output ? stderr : stdout};
     int code = add_stops(&trip, &arguments);

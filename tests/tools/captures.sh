@@ -188,6 +188,12 @@ nothing_left
 run 2 translate "$work/downlink.pcap" "$work/out/sent.pcap"
 run 2 translate --table "$work/office" "$work/downlink.pcap"
 run 2 translate --table "$work/office" "$work/downlink.pcap" "$work/out/sent.pcap" more
+cp "$work/downlink.pcap" "$work/own.pcap"
+ln -s own.pcap "$work/link.pcap"
+run 2 translate --table "$work/office" "$work/own.pcap" "$work/link.pcap"
+complained "link.pcap: is the capture that is read, and would be replaced"
+run 2 trip "${downlink[@]}" "$work/own.pcap" -o "$work/own.pcap"
+same own.pcap downlink.pcap
 run 2 trip --near "$work/office" "$work/downlink.pcap"
 run 2 trip "${downlink[@]}"
 run 2 trip "${downlink[@]}" --via a --via b --via c --via d --via e --via f "$work/downlink.pcap"
