@@ -45,8 +45,8 @@ static size_t larger(size_t a, size_t b)
     return a > b ? a : b;
 }
 
-/* Translates one packet; false: what was sent could not be written. */
-static bool translate_packet(struct run *run, const struct capture_packet *packet)
+/* Translates one packet; the exit code, not 0 where what was sent could not be written. */
+static int translate_packet(struct run *run, const struct capture_packet *packet)
 {
     static uint8_t sent[STOP_ROOM];
     const uint64_t answer = stop_call(&run->stop, packet->version, packet->octets, packet->length, sent);
@@ -54,10 +54,11 @@ static bool translate_packet(struct run *run, const struct capture_packet *packe
     if (run->trace)
         say_trace(run, packet, answer);
     if (kawsarpa_answer_number(answer) != KAWSARPA_ANSWER_SENT)
-        return true;
+        return EXIT_DONE;
     run->longest_in = larger(run->longest_in, packet->length);
     run->longest_sent = larger(run->longest_sent, kawsarpa_answer_length(answer));
-    return capture_add(run->out.file, packet->time, sent, kawsarpa_answer_length(answer));
+    const bool added = capture_add(run->out.file, packet->time, sent, kawsarpa_answer_length(answer));
+    return added ? EXIT_DONE : output_fault(&run->out);
 }
 
 /* From the reader into the output, packet by packet; the exit code. */
@@ -65,13 +66,13 @@ static int translate_all(struct run *run)
 {
     struct capture_packet packet;
     struct progress progress = progress_begin();
-    bool written = capture_begin(run->out.file);
-    while (written && capture_next(&run->reader, &packet)) {
-        written = translate_packet(run, &packet);
+    int code = capture_begin(run->out.file) ? EXIT_DONE : output_fault(&run->out);
+    while (code == EXIT_DONE && capture_next(&run->reader, &packet)) {
+        code = translate_packet(run, &packet);
         progress_at(&progress, packet.number);
     }
     progress_end(&progress);
-    return written ? run->reader.code : output_fault(&run->out);
+    return code == EXIT_DONE ? run->reader.code : code;
 }
 
 static void say_summary(const struct run *run)
@@ -146,7 +147,7 @@ static const struct argp_option option_list[] = {
 static const char words[] =
     "Makes the call of its IP version for each packet of a capture, and counts the answers. IN.pcap is a pcap or pcapng capture of Ethernet, "
     "Linux cooked or raw IP. OUT.pcap gets what is sent, as raw IP with the times of the packets that went in. Frames that are not IP or "
-    "are snapped are left out and counted; padding of the link is cut off. TABLE, IN.pcap and OUT.pcap may be `-'."
+    "are snapped are left out and counted; padding of the link is cut off. TABLE, IN.pcap and OUT.pcap may be `-'; if OUT.pcap is, all else is printed on standard error."
     "\vExit codes: 0 written; 1 the capture is bad, or the table not sound; 2 wrong usage; 3 the system failed.";
 
 static const struct argp argp = {option_list, parse, "--table TABLE IN.pcap OUT.pcap", words, NULL, NULL, NULL};

@@ -114,20 +114,21 @@ static bool compare(FILE *to, const struct packet_reading *in, const struct pack
     return differing == 0;
 }
 
-/* One packet's trip; false: what came out could not be written. */
-static bool send_packet(struct trip *trip, const struct capture_packet *packet)
+/* One packet's trip; the exit code, not 0 where what came out could not be written. */
+static int send_packet(struct trip *trip, const struct capture_packet *packet)
 {
     fprintf(trip->account, "packet %lu: ", packet->number);
     packet_describe(trip->account, packet->octets, packet->length);
     fputc('\n', trip->account);
     const struct parcel out = walk(trip, packet);
     if (out.octets == NULL)
-        return true;
+        return EXIT_DONE;
     const struct packet_reading went_in = packet_read(packet->octets, packet->length);
     const struct packet_reading came_out = packet_read(out.octets, out.length);
     trip->arrived++;
     trip->unchanged += compare(trip->account, &went_in, &came_out);
-    return trip->out.file == NULL || capture_add(trip->out.file, packet->time, out.octets, out.length);
+    const bool added = trip->out.file == NULL || capture_add(trip->out.file, packet->time, out.octets, out.length);
+    return added ? EXIT_DONE : output_fault(&trip->out);
 }
 
 /* All packets, one after the other; the exit code. */
@@ -135,13 +136,14 @@ static int send_all(struct trip *trip)
 {
     struct capture_packet packet;
     struct progress progress = progress_begin();
-    bool written = trip->out.file == NULL || capture_begin(trip->out.file);
-    while (written && capture_next(&trip->reader, &packet)) {
-        written = send_packet(trip, &packet);
+    const bool begun = trip->out.file == NULL || capture_begin(trip->out.file);
+    int code = begun ? EXIT_DONE : output_fault(&trip->out);
+    while (code == EXIT_DONE && capture_next(&trip->reader, &packet)) {
+        code = send_packet(trip, &packet);
         progress_at(&progress, packet.number);
     }
     progress_end(&progress);
-    return written ? trip->reader.code : output_fault(&trip->out);
+    return code == EXIT_DONE ? trip->reader.code : code;
 }
 
 /* The last lines; the exit code that they make. */
@@ -245,7 +247,8 @@ static const struct argp_option option_list[] = {
 
 static const char words[] =
     "Sends each IP packet of a capture through all stops of a trip, prints what leaves each, and compares what comes out with what went in. "
-    "IN.pcap is a pcap or pcapng capture of Ethernet, Linux cooked or raw IP. A TABLE, IN.pcap and OUT.pcap may be `-'."
+    "IN.pcap is a pcap or pcapng capture of Ethernet, Linux cooked or raw IP. A TABLE, IN.pcap and OUT.pcap may be `-'; if "
+    "OUT.pcap is, all else is printed on standard error."
     "\vExit codes: 0 every packet arrived with what went in; 1 one did not, the capture is bad, or a table not sound; 2 wrong usage; "
     "3 the system failed.";
 
