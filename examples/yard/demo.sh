@@ -53,6 +53,6 @@ title "And back: what the machines answer"
 step 0 kawsarpa trip --near crane --via mast --via gate --far office uplink.pcap
 
 title "What arrived, through the same trip once more: it comes out as it went in, octet for octet"
-step 0 kawsarpa trip --near office --via gate --via mast --far crane arrived.pcap -o again.pcap | sed '2,/frames/{/frames/!d}'
+step 0 kawsarpa trip --near office --via gate --via mast --far crane arrived.pcap -o again.pcap | sed '2s/.*/.../; 3,/^frames/{/^frames/!d}'
 step 0 cmp arrived.pcap again.pcap
 echo "arrived.pcap and again.pcap are equal: 3 packets, $(stat -c %s again.pcap) octets of capture"
