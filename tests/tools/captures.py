@@ -9,6 +9,7 @@ import sys
 from ipaddress import ip_address
 from pathlib import Path
 from types import ModuleType
+from typing import Callable
 
 YARD = Path(__file__).resolve().parents[2] / "examples" / "yard"
 
@@ -75,7 +76,7 @@ def cooked2(packet: bytes) -> bytes:
     return ethertype(packet) + bytes.fromhex("000000000002000100060200000000020000") + packet
 
 
-def over(frames: list[Packet], wrap) -> list[Packet]:
+def over(frames: list[Packet], wrap: Callable[[bytes], bytes]) -> list[Packet]:
     return [(time, wrap(packet)) for time, packet in frames]
 
 
