@@ -58,9 +58,10 @@ second:
 staticlib: toolchain
 	rt staticlib kawsarpa
 
-# the header, and the exported functions called from C, also with cases of the second program
+# the header, and the exported functions called from C, also by the example of README.md and with cases of the second program
 library: second staticlib
 	tests/c/run.sh $(archive)
+	tests/c/example.sh $(archive)
 	tests/c/vectors.sh $(archive) $(second)
 
 # the two programs; `worked` is given cases of the second program

@@ -1,5 +1,5 @@
 #!/usr/bin/env bash
-# run.sh LIB: kawsarpa.h by itself, the symbols of the archive, the example of README.md, and calls.c linked with it as C99, as C++17 and beside the sanitizers.
+# run.sh LIB: kawsarpa.h by itself, the symbols of the archive, and calls.c linked with it as C99, as C++17 and beside the sanitizers.
 set -eu
 
 if [ $# -ne 1 ]; then
@@ -32,7 +32,6 @@ calls() { # WHAT COMPILER...
 [ -r "$lib" ] || fail "no such library: $lib"
 "$here/header.sh" || fail "kawsarpa.h failed"
 "$here/symbols.sh" "$lib" || fail "the symbols of $lib failed"
-"$here/example.sh" "$lib" || fail "the example of README.md failed"
 calls "C99" gcc -std=c99
 calls "C++17" g++ -x c++ -std=c++17
 calls "C99 with sanitizers" gcc -std=c99 -fsanitize=address,undefined -fno-sanitize-recover=all
