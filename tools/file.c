@@ -23,14 +23,6 @@ const char *file_shown_name(const char *name, const char *standard_stream)
     return is_standard(name) ? standard_stream : name;
 }
 
-bool file_same(const char *a, const char *b)
-{
-    struct stat status_a;
-    struct stat status_b;
-    return !is_standard(a) && !is_standard(b) && stat(a, &status_a) == 0 && stat(b, &status_b) == 0 && S_ISREG(status_a.st_mode) &&
-           status_a.st_dev == status_b.st_dev && status_a.st_ino == status_b.st_ino;
-}
-
 /* Octets until the end of the file, or until there is one more than `most`. False: errno says why. */
 static bool read_all(int descriptor, size_t most, struct octets *octets)
 {
@@ -77,6 +69,14 @@ int file_read(const char *name, size_t most, struct octets *octets)
 }
 
 static bool fault_said;
+
+bool file_same(const char *a, const char *b)
+{
+    struct stat status_a;
+    struct stat status_b;
+    return !is_standard(a) && !is_standard(b) && stat(a, &status_a) == 0 && stat(b, &status_b) == 0 && S_ISREG(status_a.st_mode) &&
+           status_a.st_dev == status_b.st_dev && status_a.st_ino == status_b.st_ino;
+}
 
 int output_fault(const struct output *output)
 {

@@ -15,11 +15,11 @@ struct octets {
 /* How a file is called in messages. */
 const char *file_shown_name(const char *name, const char *standard_stream);
 
-/* Whether two names are of one regular file, which would be replaced by what is made of it. */
-bool file_same(const char *a, const char *b);
-
 /* Reads all octets of a file. One with more octets than `most` is refused. 0, or the exit code after the fault was reported. */
 int file_read(const char *name, size_t most, struct octets *octets);
+
+/* Whether two names are of one regular file, which would be replaced by what is made of it. */
+bool file_same(const char *a, const char *b);
 
 /* A file that appears under its name only when it is whole. */
 struct output {
