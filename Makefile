@@ -88,8 +88,8 @@ mutants: tools staticlib
 	tests/mutants/run.sh $(archive)
 
 # the command-line tool, and the same with sanitizers for its tests
-tool_needs := /usr/include/cyaml/cyaml.h:libcyaml-dev /usr/include/yaml.h:libyaml-dev /usr/include/pcap.h:libpcap-dev clang-tidy:clang-tidy \
-  python3:python3
+tool_needs := /usr/include/cyaml/cyaml.h:libcyaml-dev /usr/include/yaml.h:libyaml-dev /usr/include/pcap.h:libpcap-dev \
+  clang-tidy:clang-tidy python3:python3
 tool_sources := $(wildcard tools/*.c)
 tool_flags := -std=c11 -D_GNU_SOURCE -g -Wall -Wextra -Wpedantic -Wshadow -Wconversion -Werror -I include
 tool_libraries := -lcyaml -lyaml -lpcap

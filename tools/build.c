@@ -97,7 +97,7 @@ static bool place_waypoints(const struct work *work, const struct record_place *
     for (unsigned int i = 0; i < count; i++) {
         const unsigned int found = find(work->description, waypoint_name, work->description->waypoints_count, names[i]);
         if (found == work->description->waypoints_count)
-            return value_refused(place, "waypoints", "\"%s\" is not the name of a waypoint", names[i]);
+            return value_refused(place, "waypoints", "\"%.80s\" is not the name of a waypoint", names[i]);
         memcpy(addresses[i], work->waypoints[found], sizeof addresses[i]);
     }
     return true;
@@ -183,7 +183,7 @@ static bool build_entry_policy(const struct work *work, const struct record_plac
     const unsigned int count = work->description->policies_count;
     const unsigned int found = find(work->description, policy_name, count, name);
     *policy = (uint8_t)found;
-    return found < count || value_refused(place, "policy", "\"%s\" is not the name of a policy", name);
+    return found < count || value_refused(place, "policy", "\"%.80s\" is not the name of a policy", name);
 }
 
 /* The fields that not every behaviour has; which, was checked. */
@@ -246,27 +246,27 @@ struct sorted_rule {
 };
 
 /* By prefix, then by its length; the earlier of two equal ones stays the earlier. */
-static int compare(const uint8_t *prefix_a, const uint8_t *prefix_b, size_t octets, int length_a, int length_b, unsigned int from_a,
-                   unsigned int from_b)
+static int compare(int by_prefix, int by_length, int by_place)
 {
-    const int by_prefix = memcmp(prefix_a, prefix_b, octets);
     if (by_prefix != 0)
         return by_prefix;
-    return length_a != length_b ? length_a - length_b : (int)from_a - (int)from_b;
+    return by_length != 0 ? by_length : by_place;
 }
 
 static int compare_entries(const void *left, const void *right)
 {
     const struct sorted_entry *a = left;
     const struct sorted_entry *b = right;
-    return compare(a->entry.prefix, b->entry.prefix, sizeof a->entry.prefix, a->entry.prefix_length, b->entry.prefix_length, a->from, b->from);
+    return compare(memcmp(a->entry.prefix, b->entry.prefix, sizeof a->entry.prefix), a->entry.prefix_length - b->entry.prefix_length,
+                   (int)a->from - (int)b->from);
 }
 
 static int compare_rules(const void *left, const void *right)
 {
     const struct sorted_rule *a = left;
     const struct sorted_rule *b = right;
-    return compare(a->rule.prefix, b->rule.prefix, sizeof a->rule.prefix, a->rule.prefix_length, b->rule.prefix_length, a->from, b->from);
+    return compare(memcmp(a->rule.prefix, b->rule.prefix, sizeof a->rule.prefix), a->rule.prefix_length - b->rule.prefix_length,
+                   (int)a->from - (int)b->from);
 }
 
 static bool build_entries(const struct work *work, struct built *built, uint8_t *at)

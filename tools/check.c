@@ -86,7 +86,8 @@ static void print_line(const struct list *list, const struct line *line)
 static void fill_to_srv6(struct list *list, struct line *line, unsigned int before, unsigned int segments)
 {
     const unsigned int after = srv6(segments);
-    snprintf(line->change, sizeof line->change, "%+d", (int)after - (int)before);
+    const int change = (int)after - (int)before;
+    snprintf(line->change, sizeof line->change, change == 0 ? "%d" : "%+d", change);
     snprintf(line->gtpu, sizeof line->gtpu, "%u", list->inner + before);
     snprintf(line->srv6, sizeof line->srv6, "%u", list->inner + after);
     if (list->inner + after > list->largest)

@@ -10,7 +10,7 @@
 #include "values.h"
 
 /* Far more than the largest table takes, with comments; and no endless input. */
-enum { DESCRIPTION_MOST = 4 << 20 };
+enum { DESCRIPTION_MOST = 1 << 20 };
 
 struct options {
     const char *description;

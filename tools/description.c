@@ -160,9 +160,7 @@ static void say_refusal(const char *file, const struct refusal *refusal, const s
 {
     const char *rest; /* of the reason: a key, or a number */
     const unsigned long line = frame_line(refusal, 0);
-    if (error == CYAML_ERR_ALIAS)
-        say_error_at(file, line, "aliases are not used in descriptions");
-    else if ((rest = behind(refusal->reason, "Load: Unexpected key: ")) != NULL)
+    if ((rest = behind(refusal->reason, "Load: Unexpected key: ")) != NULL)
         say_error_at(file, key_line(refusal, marks, rest), "unknown key \"%s\"", rest);
     else if ((rest = behind(refusal->reason, "Load: Mapping field already seen: ")) != NULL)
         say_error_at(file, key_line(refusal, marks, rest), "%s is given twice", rest);

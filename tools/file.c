@@ -23,6 +23,13 @@ const char *file_shown_name(const char *name, const char *standard_stream)
     return is_standard(name) ? standard_stream : name;
 }
 
+void file_hold_standard(void)
+{
+    for (int descriptor = STDIN_FILENO; descriptor <= STDERR_FILENO; descriptor++)
+        if (fcntl(descriptor, F_GETFD) < 0 && open("/dev/null", descriptor == STDIN_FILENO ? O_WRONLY : O_RDONLY) < 0)
+            _exit(EXIT_SYSTEM);
+}
+
 /* Octets until the end of the file, or until there is one more than `most`. False: errno says why. */
 static bool read_all(int descriptor, size_t most, struct octets *octets)
 {

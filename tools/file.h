@@ -12,6 +12,9 @@ struct octets {
     size_t count;
 };
 
+/* Takes the places of standard streams that are closed, so that no file gets them; to use one of them fails. */
+void file_hold_standard(void);
+
 /* How a file is called in messages. */
 const char *file_shown_name(const char *name, const char *standard_stream);
 

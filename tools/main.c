@@ -97,6 +97,7 @@ int main(int argc, char **argv)
 {
     struct chosen chosen = {NULL, 0};
     char name[64];
+    file_hold_standard();
     signal(SIGPIPE, SIG_IGN);
     argp_err_exit_status = EXIT_USAGE;
     argv[0] = "kawsarpa";

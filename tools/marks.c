@@ -4,61 +4,128 @@
 
 #include "say.h"
 
-/* A value that C would take for a shorter one. */
-static bool has_nul(const yaml_node_t *node)
+/* Deeper than any description, and not so deep that libyaml would take minutes. */
+enum { DEPTH_MOST = 16 };
+
+/* Of octets that are no characters libyaml tells the offset alone. */
+static unsigned long fault_line(const yaml_parser_t *parser, const struct octets *text)
 {
-    return node->type == YAML_SCALAR_NODE && memchr(node->data.scalar.value, 0, node->data.scalar.length) != NULL;
+    unsigned long line = 1;
+    if (parser->error != YAML_READER_ERROR)
+        return parser->problem_mark.line + 1;
+    for (size_t i = 0; i < parser->problem_offset && i < text->count; i++)
+        line += text->at[i] == '\n';
+    return line;
 }
 
-static bool check_values(const yaml_document_t *document, const char *file)
-{
-    for (const yaml_node_t *node = document->nodes.start; node < document->nodes.top; node++)
-        if (has_nul(node)) {
-            say_error_at(file, node->start_mark.line + 1, "a value holds the character NUL");
-            return false;
-        }
-    return true;
-}
-
-static void say_parser_fault(const yaml_parser_t *parser, const char *file)
+static void say_parser_fault(const yaml_parser_t *parser, const char *file, const struct octets *text)
 {
     const char *problem = parser->problem == NULL ? "not YAML" : parser->problem;
     const bool colon = strstr(problem, "mapping values are not allowed") != NULL;
-    say_error_at(file, parser->problem_mark.line + 1, "%s%s", problem, colon ? " (an address that ends in a colon needs quotes)" : "");
+    say_error_at(file, fault_line(parser, text), "%s%s", problem, colon ? " (an address that ends in a colon needs quotes)" : "");
 }
 
-static bool check_rest(yaml_parser_t *parser, const char *file)
+/* How far the scan of a text has come. */
+struct scan {
+    unsigned int depth;
+    unsigned int documents;
+};
+
+/* What speaks against an event, or NULL. */
+static const char *objection(struct scan *scan, const yaml_event_t *event)
 {
-    yaml_document_t next;
-    if (!yaml_parser_load(parser, &next)) {
-        say_parser_fault(parser, file);
+    switch (event->type) {
+    case YAML_DOCUMENT_START_EVENT:
+        return ++scan->documents > 1 ? "a second document: a description is one" : NULL;
+    case YAML_ALIAS_EVENT:
+        return "aliases are not used in descriptions";
+    case YAML_SEQUENCE_START_EVENT:
+    case YAML_MAPPING_START_EVENT:
+        return ++scan->depth > DEPTH_MOST ? "lists and keys are nested too deeply" : NULL;
+    case YAML_SEQUENCE_END_EVENT:
+    case YAML_MAPPING_END_EVENT:
+        scan->depth--;
+        return NULL;
+    case YAML_SCALAR_EVENT: /* C would take it for a shorter one */
+        return memchr(event->data.scalar.value, 0, event->data.scalar.length) != NULL ? "a value holds the character NUL" : NULL;
+    default:
+        return NULL;
+    }
+}
+
+/* The text event by event, before any of it is kept. */
+static bool scan_text(yaml_parser_t *parser, const char *file, const struct octets *text)
+{
+    struct scan scan = {0, 0};
+    for (;;) {
+        yaml_event_t event;
+        if (!yaml_parser_parse(parser, &event)) {
+            say_parser_fault(parser, file, text);
+            return false;
+        }
+        const char *against = objection(&scan, &event);
+        const bool ended = event.type == YAML_STREAM_END_EVENT;
+        if (against != NULL)
+            say_error_at(file, event.start_mark.line + 1, "%s", against);
+        yaml_event_delete(&event);
+        if (ended || against != NULL)
+            return against == NULL;
+    }
+}
+
+/* libyaml's functions take documents that they do not change as if they did. */
+static const yaml_node_t *node_at(const struct marks *marks, int id)
+{
+    return yaml_document_get_node((yaml_document_t *)&marks->document, id);
+}
+
+/* The line of a key that is not one value, or 0. */
+static unsigned long strange_key_line(const struct marks *marks)
+{
+    for (const yaml_node_t *node = marks->document.nodes.start; node < marks->document.nodes.top; node++) {
+        if (node->type != YAML_MAPPING_NODE)
+            continue;
+        for (const yaml_node_pair_t *pair = node->data.mapping.pairs.start; pair < node->data.mapping.pairs.top; pair++)
+            if (node_at(marks, pair->key)->type != YAML_SCALAR_NODE)
+                return node_at(marks, pair->key)->start_mark.line + 1;
+    }
+    return 0;
+}
+
+static bool load_document(struct marks *marks, yaml_parser_t *parser, const char *file, const struct octets *text)
+{
+    if (!yaml_parser_load(parser, &marks->document)) {
+        say_parser_fault(parser, file, text);
         return false;
     }
-    const yaml_node_t *root = yaml_document_get_root_node(&next);
-    const unsigned long line = root == NULL ? 0 : root->start_mark.line + 1;
-    yaml_document_delete(&next);
-    if (line != 0)
-        say_error_at(file, line, "a second document: a description is one");
-    return line == 0;
+    const bool empty = node_at(marks, 1) == NULL;
+    const unsigned long line = strange_key_line(marks);
+    if (empty)
+        say_error_at(file, 0, "no description: the file is empty");
+    else if (line != 0)
+        say_error_at(file, line, "a key is not one value");
+    if (empty || line != 0)
+        marks_free(marks);
+    return !empty && line == 0;
+}
+
+static void begin(yaml_parser_t *parser, const struct octets *text)
+{
+    if (!yaml_parser_initialize(parser))
+        say_no_memory();
+    yaml_parser_set_input_string(parser, text->at, text->count);
 }
 
 bool marks_read(struct marks *marks, const char *file, const struct octets *text)
 {
     yaml_parser_t parser;
-    bool good = false;
-    if (!yaml_parser_initialize(&parser))
-        say_no_memory();
-    yaml_parser_set_input_string(&parser, text->at, text->count);
-    if (!yaml_parser_load(&parser, &marks->document))
-        say_parser_fault(&parser, file);
-    else {
-        if (yaml_document_get_root_node(&marks->document) == NULL)
-            say_error_at(file, 0, "no description: the file is empty");
-        else
-            good = check_values(&marks->document, file) && check_rest(&parser, file);
-        if (!good)
-            marks_free(marks);
-    }
+    begin(&parser, text);
+    bool good = scan_text(&parser, file, text);
+    yaml_parser_delete(&parser);
+    if (!good)
+        return false;
+    begin(&parser, text);
+    good = load_document(marks, &parser, file, text);
     yaml_parser_delete(&parser);
     return good;
 }
@@ -66,12 +133,6 @@ bool marks_read(struct marks *marks, const char *file, const struct octets *text
 void marks_free(struct marks *marks)
 {
     yaml_document_delete(&marks->document);
-}
-
-/* libyaml's functions take documents that they do not change as if they did. */
-static const yaml_node_t *node_at(const struct marks *marks, int id)
-{
-    return yaml_document_get_node((yaml_document_t *)&marks->document, id);
 }
 
 static bool is_text(const yaml_node_t *node, const char *text)

@@ -23,7 +23,7 @@ bool value_refused(const struct record_place *place, const char *field, const ch
     if (place->kind == NULL)
         say_error_at(source->file, line, "%s", reason);
     else
-        say_error_at(source->file, line, "%s \"%s\": %s", place->kind, place->name, reason);
+        say_error_at(source->file, line, "%s \"%.63s\": %s", place->kind, place->name, reason);
     return false;
 }
 
@@ -42,8 +42,8 @@ bool value_number(const struct record_place *place, const char *field, const cha
     if (number_read(text, number) && *number >= low && *number <= high)
         return true;
     if (low == high)
-        return value_refused(place, field, "%s is \"%s\", not %u", field, text, low);
-    return value_refused(place, field, "%s is \"%s\", not a number from %u to %u", field, text, low, high);
+        return value_refused(place, field, "%s is \"%.80s\", not %u", field, text, low);
+    return value_refused(place, field, "%s is \"%.80s\", not a number from %u to %u", field, text, low, high);
 }
 
 bool value_octet(const struct record_place *place, const char *field, const char *text, unsigned int low, unsigned int high,
@@ -71,7 +71,7 @@ bool value_word(const struct record_place *place, const char *field, const char 
     char list[256];
     if (word == NULL) {
         list_words(words, list, sizeof list);
-        return value_refused(place, field, "%s is \"%s\", not %s", field, text, list);
+        return value_refused(place, field, "%s is \"%.80s\", not %s", field, text, list);
     }
     *octet = word->number;
     return true;
@@ -81,7 +81,7 @@ bool value_address(const struct record_place *place, const char *field, const ch
 {
     if (inet_pton(AF_INET6, text, address) == 1)
         return true;
-    return value_refused(place, field, "%s is \"%s\", not an IPv6 address", field, text);
+    return value_refused(place, field, "%s is \"%.80s\", not an IPv6 address", field, text);
 }
 
 /* The address before the slash, and the number behind it. */
@@ -103,14 +103,14 @@ bool value_prefix6(const struct record_place *place, const char *field, const ch
 {
     if (read_prefix(AF_INET6, text, 128, prefix, length))
         return true;
-    return value_refused(place, field, "%s is \"%s\", not an IPv6 prefix such as 2001:db8::/32", field, text);
+    return value_refused(place, field, "%s is \"%.80s\", not an IPv6 prefix such as 2001:db8::/32", field, text);
 }
 
 bool value_prefix4(const struct record_place *place, const char *field, const char *text, uint8_t prefix[4], uint8_t *length)
 {
     if (read_prefix(AF_INET, text, 32, prefix, length))
         return true;
-    return value_refused(place, field, "%s is \"%s\", not an IPv4 prefix such as 192.0.2.0/24", field, text);
+    return value_refused(place, field, "%s is \"%.80s\", not an IPv4 prefix such as 192.0.2.0/24", field, text);
 }
 
 static bool name_character(char c)

@@ -106,7 +106,7 @@ static const struct answer_words answers[] = {
      "A few are normal. If the base station takes the path down, its Echo Requests need an answer from elsewhere."},
     {"A GTP-U extension header of a type other than 0x85, a second PDU Session container, or a unit count that is 0 or passes the end.",
      NULL,
-     "The base station or UPF adds extension headers, such as PDCP or RAN container, that the gateway does not carry.",
+     "The base station or UPF adds extension headers, such as PDCP PDU Number or RAN Container, that the gateway does not carry.",
      "Read the extension types in a capture, and switch the feature that adds them off."},
     {"The packet has no PDU Session container, or its direction is not that of the entry or rule.",
      NULL,
@@ -137,7 +137,8 @@ static const struct fault_words header_faults[] = {
     {"more than 64 entries", "Divide the entries over several boxes.", NULL},
     {"more than 16 rules", "Join rules with neighbouring prefixes, or divide them over several boxes.", NULL},
     {"more than 16 policies", "Let entries share policies: one policy serves any number of entries.", NULL},
-    {"the length is not that of the records that are counted", "The file was cut short, or something stands behind the table: copy it again.", NULL},
+    {"the length is not that of the records that are counted",
+     "The file was cut short, or something stands behind the table: copy it again.", NULL},
 };
 
 static const struct fault_words entry_faults[] = {
@@ -152,7 +153,8 @@ static const struct fault_words entry_faults[] = {
     {"the prefix reaches into Args", "Shorten the prefix to 8 bits for each octet before Args, or let Args start later.", "prefix"},
     {"p is over 7", "p octets, an IPv4 address and Args make an address: p is 7 at the most.", NULL},
     {"q is over 12", "q octets and an IPv4 address make an address: q is 12 at the most.", NULL},
-    {"the prefix has more than 8p bits", "The IPv4 destination stands behind p octets: shorten the prefix, or raise p at both ends.", "prefix"},
+    {"the prefix has more than 8p bits",
+     "The IPv4 destination stands behind p octets: shorten the prefix, or raise p at both ends.", "prefix"},
     {"the reserved octet is not 0", "The table was made for another version of the library, or was damaged: compile it again.", NULL},
     {"an earlier entry has the same prefix and length", "Remove one of the two: the longest match has to be one entry.", "prefix"},
 };

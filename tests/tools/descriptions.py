@@ -158,6 +158,7 @@ def write(directory, count, seed):
 def mutate(directory, count, seed, name):
     with open(name, "rb") as file:
         whole = file.read()
+    text = max(whole) < 128  # stays characters, so that more than the reader is tried
     for n in range(count):
         draw = random.Random(f"{seed} {n}")
         mutant = bytearray(whole)
@@ -167,14 +168,14 @@ def mutate(directory, count, seed, name):
             if what == 0:
                 del mutant[at:at + draw.choice([1, 4, 40])]
             elif what == 1:
-                mutant[at:at] = bytes(draw.randrange(256) for _ in range(draw.choice([1, 4])))
+                mutant[at:at] = bytes(draw.randrange(*(32, 127) if text else (0, 256)) for _ in range(draw.choice([1, 4])))
             elif what == 2:
-                mutant[at:at + 1] = draw.choice([b":", b"-", b"[", b"{", b'"', b"\n", b" ", b"&a ", b"*a", b"!", b"%", b"9", b"\0", b"|"])
+                mutant[at:at + 1] = draw.choice([b":", b"-", b"[", b"{", b'"', b"\n", b" ", b"&a ", b"*a", b"!", b"%", b"9", b"|"])
             elif what == 3:
                 start = draw.randrange(len(mutant) + 1)
                 mutant[at:at] = mutant[start:start + draw.choice([8, 64, 500])]
             elif mutant:
-                mutant[at % len(mutant)] ^= 1 << draw.randrange(8)
+                mutant[at % len(mutant)] ^= 1 << draw.randrange(7 if text else 8)
         with open(f"{directory}/{n}.mutant", "wb") as file:
             file.write(mutant)
 

@@ -101,6 +101,31 @@ expect 0 'entry 3' explain --fault "$(sed -n 's/.*fault \([0-9]*\);.*/\1/p' erro
 "$tool" check -i 100 - <site.table >output || fail "check - failed"
 grep -q '^entry 2 .* +32 *164  *196$' output || fail "check -i 100: not the lengths of document 01"
 
+### lengths: the worked packets of document 01, and rules with and without waypoints
+
+cat >lengths.yaml <<'END'
+format: 1
+waypoints:
+- {name: w, address: "2001:db8::1"}
+policies:
+- {name: one, last-sid: "2001:db8::2", args-octet: 8}
+- {name: three, waypoints: [w, w], last-sid: "2001:db8::2", args-octet: 8}
+entries:
+- {name: a, behaviour: End.M.GTP6.D, prefix: "::/1", hop-limit: 1, source: "::", direction: uplink, session-type: IPv4, policy: one}
+- {name: b, behaviour: End.M.GTP6.D, prefix: "::/2", hop-limit: 1, source: "::", direction: uplink, session-type: IPv4, policy: three}
+- {name: c, behaviour: End.M.GTP6.D.Di, prefix: "::/3", hop-limit: 1, source: "::", direction: uplink, session-type: IPv4, policy: one}
+rules:
+- {name: d, prefix: 0.0.0.0/1, hop-limit: 1, direction: uplink, session-type: IPv4, p: 0, q: 0, sid-prefix: "::", source-prefix: "::"}
+- {name: e, prefix: 0.0.0.0/2, hop-limit: 1, direction: uplink, session-type: IPv4, p: 0, q: 0, sid-prefix: "::", source-prefix: "::",
+   waypoints: [w]}
+END
+expect 0 '' compile lengths.yaml -o lengths.table
+expect 0 'The SRv6 path needs an MTU of 196' check --inner 100 lengths.table
+for line in 'entry 1 .* 0 *164 *164' 'entry 2 .* +32 *164 *196' 'entry 3 .* +16 *164 *180' 'rule 1 .* -4 *144 *140' \
+    'rule 2 .* +36 *144 *180'; do
+    grep -qx "$line" output || fail "check --inner 100: no line '$line'"
+done
+
 ### descriptions that are refused
 
 expect 0 '' compile <(printf 'format: 1\n') -o empty.table
@@ -122,12 +147,15 @@ refuse ':3: unknown key "hop_limit"' "format: 1\nentries:\n- {$end, hop_limit: 3
 refuse ':4: hop-limit is given twice' "format: 1\nentries:\n- {$end,\n   hop-limit: 3}\n"
 refuse ':3: prefix is missing' 'format: 1\nentries:\n- {name: a, behaviour: End, hop-limit: 1}\n'
 refuse ':3: hop-limit is not one value' 'format: 1\nentries:\n- {name: a, behaviour: End, prefix: "::/0", hop-limit: [1]}\n'
-refuse ':5: a second document' "format: 1\n$waypoint---\nformat: 1\n"
-refuse ':3: aliases are not used' 'format: 1\nwaypoints:\n- &x {name: a, address: "::1"}\n- *x\n'
+refuse ':4: a second document' "format: 1\n$waypoint---\nformat: 1\n"
+refuse ':4: aliases are not used' 'format: 1\nwaypoints:\n- &x {name: a, address: "::1"}\n- *x\n'
 refuse ':4: mapping values are not allowed in this context (an address that ends in a colon needs quotes)' \
     'format: 1\nwaypoints:\n- name: a\n  address: 2001:db8::\n'
 refuse ':3: a value holds the character NUL' 'format: 1\nwaypoints:\n- {name: a, address: "::1\\0"}\n'
+refuse ':2: a key is not one value' 'format: 1\n? [a, b]\n: c\n'
+refuse ':1: lists and keys are nested too deeply' "$(printf '[%.0s' {1..100000})"
 refuse ':1: control characters' '\001\002'
+refuse ':3: invalid leading UTF-8 octet' 'format: 1\n# one\n\xff\n'
 for number in 0 256 300 -1 12x 010 0x10 1.0 99999999999999999999 -18446744073709551615 "''"; do
     refuse ":6: entry \"a\": hop-limit is \"${number//\'/}\", not a number from 1 to 255" \
         "format: 1\nentries:\n- name: a\n  behaviour: End\n  prefix: ::/64\n  hop-limit: $number\n"
@@ -144,7 +172,8 @@ refuse ':4: entry "b": not sound: an earlier entry has the same prefix and lengt
     "format: 1\nentries:\n- {$end}\n- {name: b, behaviour: End, prefix: \"0::/64\", hop-limit: 2}\n"
 refuse ':4: entry "a": an earlier entry has this name' "format: 1\nentries:\n- {$end}\n- {$end}\n"
 refuse ':3: entry "a": End uses no policy' "format: 1\nentries:\n- {$end, policy: p}\n"
-refuse ':3: entry "a": End.M.GTP6.D needs source' 'format: 1\nentries:\n- {name: a, behaviour: End.M.GTP6.D, prefix: "::/0", hop-limit: 1}\n'
+refuse ':3: entry "a": End.M.GTP6.D needs source' \
+    'format: 1\nentries:\n- {name: a, behaviour: End.M.GTP6.D, prefix: "::/0", hop-limit: 1}\n'
 d='name: a, behaviour: End.M.GTP6.D, prefix: "::/0", hop-limit: 1, source: "::1", session-type: IPv4'
 refuse ':7: entry "a": "x" is not the name of a policy' "format: 1\n$waypoint${policy}entries:\n- {$d, direction: uplink, policy: x}\n"
 refuse ':7: entry "a": direction is "up", not downlink or uplink' \
@@ -169,10 +198,10 @@ refuse ':3: rule "r": not sound: bits past 8p of the SID prefix are not 0 (numbe
     "format: 1\nrules:\n- {name: r, prefix: 0.0.0.0/0, $rule, sid-prefix: \"::1\", source-prefix: \"::\"}\n"
 refuse ':3: rule "r": not sound: bits past 8q of the source prefix are not 0' \
     "format: 1\nrules:\n- {name: r, prefix: 0.0.0.0/0, $rule, sid-prefix: \"::\", source-prefix: \"::1\"}\n"
-refuse ':3: rule "r": prefix is "10.0.0.0/33", not an IPv4 prefix' \
-    "format: 1\nrules:\n- {name: r, prefix: 10.0.0.0/33, $rule, sid-prefix: \"::\", source-prefix: \"::\"}\n"
+prefixes='sid-prefix: "::", source-prefix: "::"'
+refuse ':3: rule "r": prefix is "10.0.0.0/33", not an IPv4 prefix' "format: 1\nrules:\n- {name: r, prefix: 10.0.0.0/33, $rule, $prefixes}\n"
 refuse ':4: rule "s": not sound: an earlier rule has the same prefix and length: "r"' \
-    "format: 1\nrules:\n- {name: r, prefix: 10.0.0.0/8, $rule, sid-prefix: \"::\", source-prefix: \"::\"}\n- {name: s, prefix: 10.0.0.0/8, $rule, sid-prefix: \"::\", source-prefix: \"::\"}\n"
+    "format: 1\nrules:\n- {name: r, prefix: 10.0.0.0/8, $rule, $prefixes}\n- {name: s, prefix: 10.0.0.0/8, $rule, $prefixes}\n"
 
 # as many records as there may be, and one more of each
 python3 "$here/descriptions.py" most most.yaml || fail "descriptions.py failed"
@@ -294,6 +323,14 @@ for arguments in '--help' 'check --help' 'check site.table' 'show site.table' 'e
     grep -qx 'kawsarpa: standard output: Broken pipe' errors || fail "closed pipe, not said: kawsarpa $arguments"
     checks=$((checks + 2))
 done
+
+# standard streams that are closed
+"$tool" check site.table >&- 2>/dev/null
+[ $? -eq 3 ] || fail "standard output closed, and nothing said"
+"$tool" compile site.yaml -o closed.table <&- >&- 2>&- || fail "compile does not work without standard streams"
+cmp -s site.table closed.table || fail "compile without standard streams gives another table"
+"$tool" check - <&- 2>/dev/null
+[ $? -eq 3 ] || fail "standard input closed, and nothing said"
 
 # a disk that is full: the old table stays, and no other file
 cp empty.table old.table
