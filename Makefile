@@ -4,7 +4,7 @@ SHELL := bash
 .SHELLFLAGS := -eu -o pipefail -c
 .DELETE_ON_ERROR:
 .NOTPARALLEL:
-.PHONY: all prove test ci toolchain tools format second staticlib library programs boundary fuzz mutants peers clean
+.PHONY: all prove test ci toolchain tools format second staticlib library programs boundary fuzz mutants peers tool tool-test demo demo-packages clean
 
 archive := target/staticlib/libkawsarpa.a
 second := tests/second/target/release/second
@@ -17,7 +17,7 @@ prove: toolchain
 	rt check
 
 # Everything. The library is built from what `rt ci` proved, so that is first; its count of what passed is said again at the end.
-test: toolchain tools format second ci library programs boundary
+test: toolchain tools format second ci library programs boundary tool-test
 	@tail -n 1 target/ci.log
 
 # every proof from nothing, and the must-fail edits; `rt ci` removes target/, so its output goes there afterwards
@@ -31,15 +31,22 @@ toolchain:
 	  echo "toolchain: expected '$$(cat rt.version)', found '$$found'" >&2; exit 1; \
 	fi
 
-# what the tests beside the proofs need: Debian's packages, where one is missing
-tools:
+# Debian's packages of a list of NAME:PACKAGE, where the command or file NAME is missing
+define install
 	@missing=; \
-	for pair in gcc:gcc g++:g++ nm:binutils cargo:cargo valgrind:valgrind; do \
-	  command -v "$${pair%%:*}" >/dev/null || missing="$$missing $${pair#*:}"; \
+	for pair in $(1); do \
+	  command -v "$${pair%%:*}" >/dev/null || [ -e "$${pair%%:*}" ] || missing="$$missing $${pair#*:}"; \
 	done; \
-	if [ -n "$$missing" ]; then \
+	if [ -n "$$missing" ] && [ "$$(id -u)" -ne 0 ]; then \
+	  echo "missing; as root: apt-get install$$missing" >&2; exit 1; \
+	elif [ -n "$$missing" ]; then \
 	  echo "installing$$missing"; apt-get update -qq && apt-get install -y -qq $$missing; \
 	fi
+endef
+
+# what the tests beside the proofs need
+tools:
+	$(call install,gcc:gcc g++:g++ nm:binutils cargo:cargo valgrind:valgrind $(tool_needs))
 
 format:
 	rt fmt --check
@@ -51,9 +58,10 @@ second:
 staticlib: toolchain
 	rt staticlib kawsarpa
 
-# the header, and the exported functions called from C, also with cases of the second program
+# the header, and the exported functions called from C, also by the example of README.md and with cases of the second program
 library: second staticlib
 	tests/c/run.sh $(archive)
+	tests/c/example.sh $(archive)
 	tests/c/vectors.sh $(archive) $(second)
 
 # the two programs; `worked` is given cases of the second program
@@ -78,6 +86,46 @@ peers: tools staticlib
 # each rule of the second program changed in one place: the library's answers must show every change
 mutants: tools staticlib
 	tests/mutants/run.sh $(archive)
+
+# the command-line tool, and the same with sanitizers for its tests
+tool_needs := /usr/include/cyaml/cyaml.h:libcyaml-dev /usr/include/yaml.h:libyaml-dev /usr/include/pcap.h:libpcap-dev \
+  clang-tidy:clang-tidy python3:python3
+tool_sources := $(wildcard tools/*.c)
+tool_flags := -std=c11 -D_GNU_SOURCE -g -Wall -Wextra -Wpedantic -Wshadow -Wconversion -Werror -I include
+tool_libraries := -lcyaml -lyaml -lpcap
+sanitizers := -fsanitize=address,undefined -fno-sanitize-recover=all
+
+tool: tools staticlib target/tools/kawsarpa target/tools/kawsarpa-asan
+
+$(archive): | staticlib ;
+
+target/tools/kawsarpa: $(tool_sources:tools/%.c=target/tools/plain/%.o) $(archive)
+	gcc -o $@ $^ $(tool_libraries)
+
+target/tools/kawsarpa-asan: $(tool_sources:tools/%.c=target/tools/asan/%.o) $(archive)
+	gcc $(sanitizers) -o $@ $^ $(tool_libraries)
+
+target/tools/plain/%.o: tools/%.c $(wildcard tools/*.h) include/kawsarpa.h
+	@mkdir -p $(@D)
+	gcc $(tool_flags) $(CPPFLAGS) -O2 -c -o $@ $<
+
+target/tools/asan/%.o: tools/%.c $(wildcard tools/*.h) include/kawsarpa.h
+	@mkdir -p $(@D)
+	gcc $(tool_flags) $(CPPFLAGS) $(sanitizers) -O1 -c -o $@ $<
+
+# the tool's sources read by clang-tidy, and its commands driven, with the sanitizers
+tool-test: tool second
+	clang-tidy --quiet $(tool_sources) -- $(tool_flags) $(CPPFLAGS)
+	tests/tools/tables.sh target/tools/kawsarpa-asan $(second)
+	tests/tools/captures.sh target/tools/kawsarpa-asan
+	python3 docs/trip.py | cmp - docs/trip.svg
+
+# the yard example: tables compiled, captures sent through whole trips; root is needed only where a package is missing
+demo: demo-packages staticlib target/tools/kawsarpa
+	@examples/yard/demo.sh target/tools/kawsarpa
+
+demo-packages:
+	$(call install,gcc:gcc $(filter-out clang-tidy:%,$(tool_needs)))
 
 clean:
 	rm -rf target tests/second/target tests/boundary/target

@@ -1,0 +1,58 @@
+#!/usr/bin/env bash
+# demo.sh TOOL: the yard's tables compiled, its captures made, and both sent through whole trips. Prints each command before what it says.
+set -eu -o pipefail
+
+if [ $# -ne 1 ]; then
+    echo "usage: demo.sh TOOL" >&2
+    exit 2
+fi
+tool=$(realpath "$1")
+yard=$(cd "$(dirname "$0")" && pwd)
+work=$(mktemp -d)
+trap 'rm -rf "$work"' EXIT
+
+# The commands run in the work directory, so that they can be shown with short names.
+cp "$yard"/*.yaml "$work"
+cd "$work"
+mkdir bin
+ln -s "$tool" bin/kawsarpa
+PATH=$work/bin:$PATH
+
+title() {
+    printf '\n== %s\n' "$1"
+}
+
+# Shows a command and runs it; any exit code but the one that is expected ends the demo.
+step() { # CODE COMMAND...
+    local expected=$1 code=0
+    shift
+    echo "\$ $*"
+    "$@" || code=$?
+    if [ "$code" -ne "$expected" ]; then
+        echo "demo.sh: exit code $code, not $expected" >&2
+        exit 1
+    fi
+}
+
+title "The tables of the two gateways and the two waypoints, from their descriptions"
+for name in office gate mast crane; do
+    step 0 kawsarpa compile $name.yaml -o $name
+done
+
+title "The captures: Ethernet frames seen beside the UPF and beside the radio"
+python3 "$yard/make-capture.py" .
+ls -- *.pcap
+
+title "The near gateway alone: what it makes of each downlink packet. Packet 3 is ARP; packet 4, an End Marker, is not for it"
+step 0 kawsarpa translate --table office --trace downlink.pcap left-office.pcap
+
+title "The whole trip, from the office to the crane. The exit code is 1, since the End Marker does not arrive"
+step 1 kawsarpa trip --near office --via gate --via mast --far crane downlink.pcap -o arrived.pcap
+
+title "And back: what the machines answer"
+step 0 kawsarpa trip --near crane --via mast --via gate --far office uplink.pcap
+
+title "What arrived, through the same trip once more: it comes out as it went in, octet for octet"
+step 0 kawsarpa trip --near office --via gate --via mast --far crane arrived.pcap -o again.pcap | sed '2s/.*/.../; 3,/^frames/{/^frames/!d}'
+step 0 cmp arrived.pcap again.pcap
+echo "arrived.pcap and again.pcap are equal: 3 packets, $(stat -c %s again.pcap) octets of capture"

@@ -1,0 +1,155 @@
+"""captures.py DIRECTORY: the captures of captures.sh, all of the yard's downlink packets, and what translating them at the office sends.
+
+The expected packets are put together here, from the layouts, and not by the library.
+"""
+
+import importlib.util
+import struct
+import sys
+from ipaddress import ip_address
+from pathlib import Path
+from types import ModuleType
+from typing import Callable
+
+YARD = Path(__file__).resolve().parents[2] / "examples" / "yard"
+
+ETHERNET, SLL, SLL2, RAW, RAW_LINUX, RAW_OPENBSD, IPV4, IPV6, IEEE802_11 = 1, 113, 276, 101, 12, 14, 228, 229, 105
+MICROSECONDS, NANOSECONDS = 0xA1B2C3D4, 0xA1B23C4D
+WAYPOINTS = ["2001:db8:1::e", "2001:db8:2::e"]
+SECOND = 1767258000
+
+
+def load(name: str, path: Path) -> ModuleType:
+    spec = importlib.util.spec_from_file_location(name, path)
+    assert spec is not None and spec.loader is not None
+    module = importlib.util.module_from_spec(spec)
+    spec.loader.exec_module(module)
+    return module
+
+
+sys.dont_write_bytecode = True
+yard = load("make_capture", YARD / "make-capture.py")
+
+Packet = tuple[int, bytes]  # the time in microseconds past SECOND, and the octets
+
+
+def pcap(link: int, frames: list[Packet], order: str = "<", magic: int = MICROSECONDS, cut: int = 0) -> bytes:
+    """With cut, each frame lacks that many octets that it had on the link."""
+    scale = 1000 if magic == NANOSECONDS else 1
+    octets = struct.pack(order + "IHHiIII", magic, 2, 4, 0, 0, 262144, link)
+    for time, frame in frames:
+        kept = frame[:len(frame) - cut]
+        octets += struct.pack(order + "IIII", SECOND, time * scale, len(kept), len(frame)) + kept
+    return octets
+
+
+def block(kind: int, body: bytes) -> bytes:
+    body += bytes(-len(body) % 4)
+    length = struct.pack("<I", 12 + len(body))
+    return struct.pack("<I", kind) + length + body + length
+
+
+def pcapng(link: int, frames: list[Packet]) -> bytes:
+    """Section header, interface (times in nanoseconds), enhanced packets."""
+    octets = block(0x0A0D0D0A, struct.pack("<IHHq", 0x1A2B3C4D, 1, 0, -1))
+    octets += block(1, struct.pack("<HHI", link, 0, 0) + struct.pack("<HHB3xHH", 9, 1, 9, 0, 0))
+    for time, frame in frames:
+        at = SECOND * 10**9 + time * 1000
+        octets += block(6, struct.pack("<IIIII", 0, at >> 32, at & 0xFFFFFFFF, len(frame), len(frame)) + frame)
+    return octets
+
+
+def ethertype(packet: bytes) -> bytes:
+    return b"\x86\xdd" if packet[0] >> 4 == 6 else b"\x08\x00"
+
+
+def tagged(packet: bytes, *tags: str) -> bytes:
+    """An Ethernet frame with VLAN tags, given as hexadecimal."""
+    return bytes(12) + bytes.fromhex("".join(tags)) + ethertype(packet) + packet
+
+
+def cooked(packet: bytes) -> bytes:
+    return bytes.fromhex("0000000100060200000000020000") + ethertype(packet) + packet
+
+
+def cooked2(packet: bytes) -> bytes:
+    return ethertype(packet) + bytes.fromhex("000000000002000100060200000000020000") + packet
+
+
+def over(frames: list[Packet], wrap: Callable[[bytes], bytes]) -> list[Packet]:
+    return [(time, wrap(packet)) for time, packet in frames]
+
+
+def srv6(source: str, traffic_class: int, path: list[str], inner: bytes) -> bytes:
+    """What a gateway sends along a path: an IPv6 header, an SRH, an inner IPv4 packet."""
+    segments = b"".join(ip_address(segment).packed for segment in reversed(path))
+    last = len(path) - 1
+    srh = bytes([4, 2 * len(path), 4, last, last, 0, 0, 0]) + segments
+    header = struct.pack(">IHBB", 6 << 28 | traffic_class << 20, len(srh) + len(inner), 43, 64)
+    return header + ip_address(source).packed + ip_address(path[0]).packed + srh + inner
+
+
+def main() -> None:
+    if len(sys.argv) != 2:
+        sys.exit("usage: captures.py DIRECTORY")
+    directory = Path(sys.argv[1])
+
+    def write(name: str, octets: bytes) -> None:
+        (directory / name).write_bytes(octets)
+
+    stop, camera = yard.to_carrier(b"lane 7: stop"), yard.to_carrier(b"camera 2 on")
+    command = yard.g_pdu(yard.DOWNLINK, 5, 1, 0x01020304, stop)
+    video = yard.g_pdu(yard.DOWNLINK, 9, 0, 0x01020306, camera)
+    over6 = (0, yard.ipv6(yard.UPF6, yard.RADIO6, 0xB8, command))
+    over4 = (20000, yard.ipv4(yard.UPF4, yard.RADIO4, 0xB8, command))
+    marker = (60000, yard.ipv4(yard.UPF4, yard.RADIO4, 0, yard.gtpu(yard.END_MARKER, 0x01020305)))
+    last6 = (80000, yard.ipv6(yard.UPF6, yard.RADIO6, 0, video))
+    packets = [over6, over4, marker, last6]
+
+    sent6 = (0, srv6("2001:db8:f::1", 0xB8, WAYPOINTS + ["2001:db8:b:1:1601:203:400:0", yard.RADIO6], stop))
+    sent4 = (20000, srv6("2001:db8:d1:0:c633:6407::", 0xB8, WAYPOINTS + ["2001:db8:c1:c000:209:1601:203:400"], stop))
+    sent_last = (80000, srv6("2001:db8:f::1", 0, WAYPOINTS + ["2001:db8:b:1:2401:203:600:0", yard.RADIO6], camera))
+
+    def sent(name: str, frames: list[Packet]) -> None:
+        write(name, pcap(RAW, frames, magic=NANOSECONDS))
+
+    sent("sent.expected", [sent6, sent4, sent_last])
+    sent("sent-ipv4.expected", [sent4])
+    sent("sent-ipv6.expected", [sent6, sent_last])
+    sent("none.expected", [])
+
+    # every link type and format: the same packets, so the same result
+    write("same-ethernet.pcap", pcap(ETHERNET, over(packets, tagged)))
+    write("same-vlan.pcap", pcap(ETHERNET, over(packets, lambda p: tagged(p, "8100000c"))))
+    write("same-qinq.pcap", pcap(ETHERNET, over(packets, lambda p: tagged(p, "88a80001", "8100000c"))))
+    write("same-old-qinq.pcap", pcap(ETHERNET, over(packets, lambda p: tagged(p, "91000001", "8100000c"))))
+    write("same-cooked.pcap", pcap(SLL, over(packets, cooked)))
+    write("same-cooked-v2.pcap", pcap(SLL2, over(packets, cooked2)))
+    write("same-raw.pcap", pcap(RAW, packets))
+    write("same-raw-linux.pcap", pcap(RAW_LINUX, packets))
+    write("same-raw-openbsd.pcap", pcap(RAW_OPENBSD, packets))
+    write("same-big-endian.pcap", pcap(ETHERNET, over(packets, tagged), order=">"))
+    write("same-nanoseconds.pcap", pcap(ETHERNET, over(packets, tagged), magic=NANOSECONDS))
+    write("same-pcapng.pcap", pcapng(ETHERNET, over(packets, tagged)))
+    write("same-pcapng-raw.pcap", pcapng(RAW, packets))
+    write("same-padded.pcap", pcap(ETHERNET, over(packets, lambda p: tagged(p) + bytes(6))))
+    write("same-cooked-padded.pcap", pcap(SLL, over(packets, lambda p: cooked(p) + bytes(1))))
+    write("ipv4.pcap", pcap(IPV4, [over4, marker]))
+    write("ipv6.pcap", pcap(IPV6, [over6, last6]))
+
+    # what is counted and left out, or refused
+    write("empty.pcap", pcap(ETHERNET, []))
+    write("snapped.pcap", pcap(ETHERNET, over([over6] * 7, tagged), cut=1))
+    write("raw-behind.pcap", pcap(RAW, over(packets, lambda p: p + b"\0")))
+    write("wrong-version.pcap", pcap(IPV4, [over6]))
+    strange = [b"", bytes(1), bytes(13), bytes(60), bytes(12) + b"\x81\x00", bytes(12) + b"\x81\x00\x00\x01\x81"]
+    write("not-ip.pcap", pcap(ETHERNET, [(0, frame) for frame in strange]))
+    write("not-ip-raw.pcap", pcap(RAW, [(0, b""), (0, b"\x50"), (0, bytes(64))]))
+    write("wireless.pcap", pcap(IEEE802_11, [(0, bytes(64))]))
+    write("foreign.pcap", b"office: no capture\n" * 40)
+    write("nothing.pcap", b"")
+    write("many.pcap", pcap(ETHERNET, over([over6] * 3000, tagged)))
+
+
+if __name__ == "__main__":
+    main()

@@ -1,0 +1,238 @@
+#!/usr/bin/env bash
+# captures.sh TOOL: drives the commands translate and trip over captures of every link type, bad ones and mutated ones, with the yard's tables.
+set -eu
+
+if [ $# -ne 1 ]; then
+    echo "usage: captures.sh TOOL" >&2
+    exit 2
+fi
+tool=$(realpath "$1")
+here=$(cd "$(dirname "$0")" && pwd)
+yard=$here/../../examples/yard
+work=$(mktemp -d)
+trap 'rm -rf "$work"' EXIT
+checks=0
+
+fail() {
+    echo "captures.sh: $1" >&2
+    [ ! -s "$work/stdout" ] || sed 's/^/  stdout: /' "$work/stdout" >&2
+    [ ! -s "$work/stderr" ] || sed 's/^/  stderr: /' "$work/stderr" >&2
+    exit 1
+}
+
+# Runs the tool and holds the exit code against the one that is expected.
+run() { # CODE ARGUMENT...
+    local expected=$1 code=0
+    shift
+    "$tool" "$@" >"$work/stdout" 2>"$work/stderr" || code=$?
+    [ "$code" -eq "$expected" ] || fail "exit code $code, not $expected: $*"
+    checks=$((checks + 1))
+}
+
+# A line of the last run's standard output, or of its errors.
+printed() { # TEXT
+    grep -qxF -- "$1" "$work/stdout" || fail "not printed: $1"
+    checks=$((checks + 1))
+}
+
+complained() { # TEXT
+    grep -qF -- "$1" "$work/stderr" || fail "no such message: $1"
+    checks=$((checks + 1))
+}
+
+same() { # FILE FILE
+    cmp "$work/$1" "$work/$2" >&2 || fail "$1 and $2 differ"
+    checks=$((checks + 1))
+}
+
+# After a failure nothing is left, under the final name or beside it.
+nothing_left() {
+    [ -z "$(find "$work/out" -mindepth 1)" ] || fail "left behind: $(ls "$work/out")"
+    checks=$((checks + 1))
+}
+
+translate() { # CODE CAPTURE
+    rm -f "$work/out/sent.pcap"
+    run "$1" translate --table "$work/office" "$work/$2" "$work/out/sent.pcap"
+}
+
+refused() { # CAPTURE TEXT
+    translate 1 "$1"
+    complained "$2"
+    nothing_left
+}
+
+downlink=(--near "$work/office" --via "$work/gate" --via "$work/mast" --far "$work/crane")
+uplink=(--near "$work/crane" --via "$work/mast" --via "$work/gate" --far "$work/office")
+
+mkdir "$work/out"
+for name in office gate mast crane; do
+    run 0 compile "$yard/$name.yaml" -o "$work/$name"
+done
+python3 "$here/captures.py" "$work"
+python3 "$yard/make-capture.py" "$work"
+
+# every link type and format
+for capture in "$work"/same-*.pcap; do
+    translate 0 "$(basename "$capture")"
+    same out/sent.pcap sent.expected
+    printed "       3   0 sent"
+    printed "       1  11 not a G-PDU"
+done
+translate 0 ipv4.pcap
+same out/sent.pcap sent-ipv4.expected
+translate 0 ipv6.pcap
+same out/sent.pcap sent-ipv6.expected
+printed "longest packet: 104 octets in, 152 sent"
+
+# what is cut, counted or left out
+translate 0 same-padded.pcap
+printed "frames 4: IP packets 4, not IP 0, snapped 0; padding cut 4"
+translate 0 empty.pcap
+same out/sent.pcap none.expected
+printed "frames 0: IP packets 0, not IP 0, snapped 0; padding cut 0"
+translate 0 snapped.pcap
+same out/sent.pcap none.expected
+printed "frames 7: IP packets 0, not IP 0, snapped 7; padding cut 0"
+complained "snapped.pcap: packet 1 is snapped, 117 octets of 118: it is left out"
+[ "$(wc -l <"$work/stderr")" -eq 5 ] || fail "more than five snapped packets are told one by one"
+translate 0 not-ip.pcap
+printed "frames 6: IP packets 0, not IP 6, snapped 0; padding cut 0"
+translate 0 not-ip-raw.pcap
+printed "frames 3: IP packets 0, not IP 3, snapped 0; padding cut 0"
+translate 0 raw-behind.pcap
+printed "       4   2 malformed packet"
+translate 0 wrong-version.pcap
+printed "       1   2 malformed packet"
+
+# the trace
+run 0 translate --table "$work/office" --trace "$work/downlink.pcap" "$work/out/sent.pcap"
+same out/sent.pcap sent.expected
+printed "packet 1: sent: IPv6 2001:db8:a0::1 > 2001:db8:77::9, traffic class 0xb8, G-PDU, TEID 0x01020304, QFI 5, R 1, downlink, 104 octets"
+printed "packet 4: refused, 11 not a G-PDU: IPv4 198.51.100.7 > 192.0.2.9, traffic class 0x00, End Marker, TEID 0x01020305, 36 octets"
+printed "frames 5: IP packets 4, not IP 1, snapped 0; padding cut 2"
+cp "$work/out/sent.pcap" "$work/sent.pcap"
+run 0 translate --table "$work/gate" --trace "$work/sent.pcap" "$work/out/passed.pcap"
+printed "packet 2: sent: IPv6 2001:db8:d1:0:c633:6407:: > 2001:db8:1::e, traffic class 0xb8, SL 2 then 2001:db8:2::e, \
+2001:db8:c1:c000:209:1601:203:400, IPv4 inside, 136 octets"
+run 0 translate --table "$work/crane" --trace "$work/sent.pcap" "$work/out/passed.pcap"
+printed "       3   4 no match"
+
+# standard input and output
+"$tool" translate --table "$work/office" - - <"$work/downlink.pcap" >"$work/out/sent.pcap" 2>"$work/stderr" || fail "from - to -"
+same out/sent.pcap sent.expected
+complained "       3   0 sent"
+
+# a trip: what came out at the crane
+run 1 trip "${downlink[@]}" "$work/downlink.pcap" -o "$work/out/arrived.pcap"
+printed "  near: refused, 11 not a G-PDU"
+printed "  arrived with the destination, TEID, QFI, R, traffic class and 40 inner octets that went in"
+printed "3 of 4 packets arrived, 3 of them with the destination, TEID, QFI, R, traffic class and inner octets that went in"
+cp "$work/out/arrived.pcap" "$work/again.pcap"
+run 0 trip "${downlink[@]}" "$work/again.pcap" -o "$work/out/again.pcap"
+same out/again.pcap again.pcap
+printed "3 of 3 packets arrived, 3 of them with the destination, TEID, QFI, R, traffic class and inner octets that went in"
+run 0 trip "${uplink[@]}" "$work/uplink.pcap"
+printed "2 of 2 packets arrived, 2 of them with the destination, TEID, QFI, R, traffic class and inner octets that went in"
+run 0 trip "${downlink[@]}" "$work/empty.pcap"
+
+# trips that do not arrive: a waypoint left out, the wrong way round, no SRH behind the far gateway
+run 1 trip --near "$work/office" --via "$work/mast" --far "$work/crane" "$work/downlink.pcap"
+printed "  via 1: refused, 4 no match"
+run 1 trip "${uplink[@]}" "$work/downlink.pcap"
+printed "0 of 4 packets arrived, 0 of them with the destination, TEID, QFI, R, traffic class and inner octets that went in"
+
+# tables that match by chance: near Args begin an octet later than far ones read them
+sed '/^policies/,/^entries/s/args-octet: 8/args-octet: 9/' "$yard/office.yaml" >"$work/shifted.yaml"
+run 0 compile "$work/shifted.yaml" -o "$work/shifted"
+run 1 trip --near "$work/shifted" "${downlink[@]:2}" "$work/downlink.pcap"
+printed "  arrived, but not as it went in: TEID, QFI, R"
+printed "3 of 4 packets arrived, 1 of them with the destination, TEID, QFI, R, traffic class and inner octets that went in"
+
+# bad captures: the file and the packet are named, and nothing is written
+rm -f "$work"/out/*
+refused foreign.pcap "foreign.pcap: not a pcap or pcapng capture"
+refused nothing.pcap "nothing.pcap: not a pcap or pcapng capture"
+refused wireless.pcap "wireless.pcap: link type 105 (IEEE802_11) cannot be read"
+translate 3 none.pcap
+complained "none.pcap: No such file or directory"
+nothing_left
+translate 3 out
+nothing_left
+for format in same-ethernet same-pcapng; do
+    length=$(stat -c %s "$work/$format.pcap")
+    for ((cut = length - 1; cut > length - 100; cut -= 7)); do
+        head -c "$cut" "$work/$format.pcap" >"$work/cut.pcap"
+        refused cut.pcap "cut.pcap: packet 4: truncated"
+    done
+done
+run 1 trip "${downlink[@]}" "$work/cut.pcap" -o "$work/out/arrived.pcap"
+nothing_left
+
+# an older file stays as it was
+cp "$work/sent.expected" "$work/out/sent.pcap"
+run 1 translate --table "$work/office" "$work/cut.pcap" "$work/out/sent.pcap"
+same out/sent.pcap sent.expected
+rm "$work/out/sent.pcap"
+
+# bad tables
+run 3 translate --table "$work/none" "$work/downlink.pcap" "$work/out/sent.pcap"
+run 1 translate --table "$yard/office.yaml" "$work/downlink.pcap" "$work/out/sent.pcap"
+complained "office.yaml: not sound"
+head -c 100 "$work/office" >"$work/short"
+run 1 trip --near "$work/office" --far "$work/short" "$work/downlink.pcap" -o "$work/out/sent.pcap"
+complained "short: not sound"
+nothing_left
+
+# wrong usage
+run 2 translate "$work/downlink.pcap" "$work/out/sent.pcap"
+run 2 translate --table "$work/office" "$work/downlink.pcap"
+run 2 translate --table "$work/office" "$work/downlink.pcap" "$work/out/sent.pcap" more
+cp "$work/downlink.pcap" "$work/own.pcap"
+ln -s own.pcap "$work/link.pcap"
+run 2 translate --table "$work/office" "$work/own.pcap" "$work/link.pcap"
+complained "link.pcap: is the capture that is read, and would be replaced"
+run 2 trip "${downlink[@]}" "$work/own.pcap" -o "$work/own.pcap"
+same own.pcap downlink.pcap
+run 2 trip --near "$work/office" "$work/downlink.pcap"
+run 2 trip "${downlink[@]}"
+run 2 trip "${downlink[@]}" --via a --via b --via c --via d --via e --via f "$work/downlink.pcap"
+complained "a trip has at most 7 waypoints"
+nothing_left
+
+# a full disk, a directory that is not there, a closed pipe
+run 3 translate --table "$work/office" "$work/many.pcap" /dev/full
+complained "/dev/full: No space left on device"
+run 3 trip "${downlink[@]}" "$work/downlink.pcap" -o /dev/full
+run 3 translate --table "$work/office" "$work/many.pcap" "$work/nowhere/sent.pcap"
+code=0
+"$tool" translate --table "$work/office" "$work/many.pcap" - 2>"$work/stderr" >/dev/full || code=$?
+[ "$code" -eq 3 ] || fail "exit code $code, not 3, on a full disk"
+# many.pcap fills the pipe: the tool waits until its reader is gone
+{ code=0; "$tool" translate --table "$work/office" "$work/many.pcap" - 2>"$work/stderr" || code=$?; echo "$code" >"$work/code"; } | true
+[ "$(cat "$work/code")" -eq 3 ] || fail "exit code $(cat "$work/code"), not 3, on a closed pipe"
+complained "standard output: Broken pipe"
+
+# a run that takes longer than a second says how far it is
+{ head -c 300000 "$work/many.pcap"; sleep 1.2; tail -c +300001 "$work/many.pcap"; } |
+    "$tool" translate --table "$work/office" - "$work/out/sent.pcap" >"$work/stdout" 2>"$work/stderr" || fail "a slow capture"
+complained "packets ..."
+printed "    3000   0 sent"
+
+# the field guide has a row for each answer, under its name
+for number in {0..16}; do
+    name=$("$tool" explain "$number" | sed -n "s/^$number: //p")
+    grep -qF "| $number $name |" "$here/../../docs/FIELD-GUIDE.md" || fail "no row in the field guide: $number $name"
+    checks=$((checks + 1))
+done
+
+# the demo, and what README.md shows of it
+"$yard/demo.sh" "$tool" >"$work/stdout" 2>"$work/stderr" || fail "the demo failed"
+while IFS= read -r line; do
+    [ "$line" = "..." ] || printed "$line"
+done < <(sed -n '/^    \$ kawsarpa trip/,/^$/s/^    //p' "$here/../../README.md")
+
+# hostile captures
+python3 "$here/mutated.py" "$tool" "$work"/{office,gate,mast,crane} "$work" 1 200
+
+echo "captures.sh: all $checks checks hold"

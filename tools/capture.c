@@ -1,0 +1,142 @@
+#include "capture.h"
+
+#include <errno.h>
+#include <pcap/pcap.h>
+#include <string.h>
+
+#include "commands.h"
+#include "file.h"
+#include "frame.h"
+#include "say.h"
+
+enum { SNAPPED_SAID = 5 };
+
+bool capture_is_input(const char *out, const char *in)
+{
+    const bool same = file_same(out, in);
+    if (same)
+        say_error_at(out, 0, "is the capture that is read, and would be replaced");
+    return same;
+}
+
+/* Opens the file and reads its head; the exit code. libpcap closes the file of a capture; after a fault it is left to us. */
+static int open_pcap(struct capture_reader *reader, const char *name)
+{
+    char fault[PCAP_ERRBUF_SIZE] = "";
+    FILE *file = strcmp(name, "-") == 0 ? stdin : fopen(name, "rb");
+    if (file == NULL) {
+        say_error_at(reader->name, 0, "%s", strerror(errno));
+        return EXIT_SYSTEM;
+    }
+    reader->pcap = pcap_fopen_offline_with_tstamp_precision(file, PCAP_TSTAMP_PRECISION_NANO, fault);
+    if (reader->pcap != NULL)
+        return EXIT_DONE;
+    const bool failed = ferror(file) != 0;
+    say_error_at(reader->name, 0, failed ? "%s" : "not a pcap or pcapng capture: %s", fault);
+    if (file != stdin)
+        fclose(file);
+    return failed ? EXIT_SYSTEM : EXIT_INPUT;
+}
+
+static int judge_link(struct capture_reader *reader)
+{
+    reader->link = pcap_datalink(reader->pcap);
+    if (frame_link_known(reader->link))
+        return EXIT_DONE;
+    const char *name = pcap_datalink_val_to_name(reader->link);
+    say_error_at(reader->name, 0, "link type %d (%s) cannot be read; Ethernet, Linux cooked and raw IP can", reader->link,
+                 name != NULL ? name : "unknown");
+    capture_close(reader);
+    return EXIT_INPUT;
+}
+
+int capture_open(struct capture_reader *reader, const char *name)
+{
+    *reader = (struct capture_reader){.name = file_shown_name(name, "standard input")};
+    const int code = open_pcap(reader, name);
+    return code == EXIT_DONE ? judge_link(reader) : code;
+}
+
+/* Says it of the first few: where one is snapped, most are. */
+static void say_snapped(const struct capture_reader *reader, const struct pcap_pkthdr *header)
+{
+    if (reader->counts.snapped > SNAPPED_SAID)
+        return;
+    say_error_at(reader->name, 0, "packet %lu is snapped, %u octets of %u: it is left out%s", reader->counts.frames, header->caplen,
+                 header->len, reader->counts.snapped == SNAPPED_SAID ? "; more are only counted" : "");
+}
+
+/* Whether the frame holds an IP packet, whole; it is counted as what it is. */
+static bool take(struct capture_reader *reader, const struct pcap_pkthdr *header, const uint8_t *octets, struct capture_packet *packet)
+{
+    struct capture_counts *counts = &reader->counts;
+    counts->frames++;
+    if (header->caplen < header->len) {
+        counts->snapped++;
+        say_snapped(reader, header);
+        return false;
+    }
+    const struct frame frame = frame_read(reader->link, octets, header->caplen);
+    if (frame.version == 0) {
+        counts->not_ip++;
+        return false;
+    }
+    counts->packets++;
+    counts->padded += frame.padding > 0;
+    /* libpcap was asked for nanoseconds, and keeps them in tv_usec */
+    const struct timespec time = {header->ts.tv_sec, header->ts.tv_usec};
+    *packet = (struct capture_packet){counts->frames, time, frame.version, frame.packet, frame.length};
+    return true;
+}
+
+bool capture_next(struct capture_reader *reader, struct capture_packet *packet)
+{
+    struct pcap_pkthdr *header = NULL;
+    const u_char *octets = NULL;
+    int result;
+    while ((result = pcap_next_ex(reader->pcap, &header, &octets)) == 1)
+        if (take(reader, header, octets, packet))
+            return true;
+    if (result != PCAP_ERROR_BREAK) {
+        say_error_at(reader->name, 0, "packet %lu: %s", reader->counts.frames + 1, pcap_geterr(reader->pcap));
+        reader->code = ferror(pcap_file(reader->pcap)) != 0 ? EXIT_SYSTEM : EXIT_INPUT;
+    }
+    return false;
+}
+
+void capture_close(struct capture_reader *reader)
+{
+    pcap_close(reader->pcap);
+    reader->pcap = NULL;
+}
+
+void capture_say_counts(FILE *to, const struct capture_counts *counts)
+{
+    fprintf(to, "frames %lu: IP packets %lu, not IP %lu, snapped %lu; padding cut %lu\n", counts->frames, counts->packets, counts->not_ip,
+            counts->snapped, counts->padded);
+}
+
+/*
+ * The pcap format (draft-ietf-opsawg-pcap), in this machine's octet order as its magic number shows. libpcap's pcap_dump does not say
+ * whether a write failed.
+ */
+
+enum { SNAP_LENGTH = 262144, LINKTYPE_RAW = 101 };
+
+static const uint32_t magic_nanoseconds = 0xA1B23C4D;
+
+bool capture_begin(FILE *file)
+{
+    const struct {
+        uint32_t magic;
+        uint16_t major, minor;
+        uint32_t reserved[2], snap_length, link_type;
+    } header = {magic_nanoseconds, PCAP_VERSION_MAJOR, PCAP_VERSION_MINOR, {0, 0}, SNAP_LENGTH, LINKTYPE_RAW};
+    return fwrite(&header, sizeof header, 1, file) == 1;
+}
+
+bool capture_add(FILE *file, struct timespec time, const uint8_t *octets, size_t length)
+{
+    const uint32_t header[4] = {(uint32_t)time.tv_sec, (uint32_t)time.tv_nsec, (uint32_t)length, (uint32_t)length};
+    return fwrite(header, sizeof header, 1, file) == 1 && fwrite(octets, 1, length, file) == length;
+}

@@ -1,0 +1,52 @@
+/* Captures: the packets of a pcap or pcapng file, and a pcap file of raw IP packets. */
+#ifndef CAPTURE_H
+#define CAPTURE_H
+
+#include <stdbool.h>
+#include <stddef.h>
+#include <stdint.h>
+#include <stdio.h>
+#include <time.h>
+
+struct capture_packet {
+    unsigned long number;   /* of the frame in its capture, from 1 */
+    struct timespec time;
+    unsigned int version;   /* 4 or 6 */
+    const uint8_t *octets;  /* good until the next packet is read */
+    size_t length;
+};
+
+/* How many frames of a capture were what. A padded one is a packet too. */
+struct capture_counts {
+    unsigned long frames, packets, padded, not_ip, snapped;
+};
+
+struct capture_reader {
+    const char *name; /* for messages */
+    struct pcap *pcap;
+    int link;
+    struct capture_counts counts;
+    int code; /* not 0: a fault was reported, and this is the exit code */
+};
+
+/* Whether a capture to write is the one to read; if so, it is reported. */
+bool capture_is_input(const char *out, const char *in);
+
+/* Opens a capture; "-" is standard input. 0, or the exit code after the fault was reported. */
+int capture_open(struct capture_reader *reader, const char *name);
+
+/* The next IP packet. Other frames and snapped ones are counted and left out. False: the end, or a fault; the reader's code says which. */
+bool capture_next(struct capture_reader *reader, struct capture_packet *packet);
+
+void capture_close(struct capture_reader *reader);
+
+/* A line about the frames that were read. */
+void capture_say_counts(FILE *to, const struct capture_counts *counts);
+
+/* Begins a capture of raw IP packets in an open file; false: the write failed. */
+bool capture_begin(FILE *file);
+
+/* Adds a packet with the time of the packet that it was made of; false: the write failed. */
+bool capture_add(FILE *file, struct timespec time, const uint8_t *octets, size_t length);
+
+#endif

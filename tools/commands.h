@@ -1,0 +1,20 @@
+/* The commands of kawsarpa and the exit codes that they share. */
+#ifndef COMMANDS_H
+#define COMMANDS_H
+
+enum {
+    EXIT_DONE = 0,
+    EXIT_INPUT = 1,  /* the input is bad; check: the table is not sound; trip: the packet did not arrive */
+    EXIT_USAGE = 2,  /* wrong options or arguments */
+    EXIT_SYSTEM = 3  /* the system failed: cannot open, read or write */
+};
+
+/* Each takes the arguments behind its name, with what is said of the program in messages as argv[0], and gives an exit code. */
+int command_compile(int argc, char **argv);
+int command_show(int argc, char **argv);
+int command_check(int argc, char **argv);
+int command_explain(int argc, char **argv);
+int command_translate(int argc, char **argv);
+int command_trip(int argc, char **argv);
+
+#endif

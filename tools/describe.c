@@ -1,0 +1,211 @@
+#include "describe.h"
+
+#include <arpa/inet.h>
+#include <sys/socket.h>
+
+#include "kawsarpa.h"
+#include "octets.h"
+
+enum { IPV4_HEADER = 20, IPV6_HEADER = 40, SRH_FRONT = 8, SEGMENT = 16, UDP_HEADER = 8, GTPU_HEADER = 8, GTPU_OPTIONAL = 4 };
+
+enum { NEXT_IPV4 = 4, NEXT_UDP = 17, NEXT_IPV6 = 41, NEXT_ROUTING = 43, NEXT_ETHERNET = 143 };
+
+enum { ROUTING_TYPE_SRH = 4, GTPU_PORT = 2152, EXTENSION_CONTAINER = 0x85 };
+
+/* GTP-U message types (TS 29.281). */
+enum { ECHO_REQUEST = 1, ECHO_RESPONSE = 2, ERROR_INDICATION = 26, END_MARKER = 254, G_PDU = 255 };
+
+/* What of the packet is still to be read. */
+struct rest {
+    const uint8_t *octets;
+    size_t length;
+};
+
+static struct rest behind(struct rest rest, size_t octets)
+{
+    return (struct rest){rest.octets + octets, rest.length - octets};
+}
+
+static void read_container(struct packet_reading *reading, const uint8_t *contents)
+{
+    reading->has_container = true;
+    reading->pdu_type = contents[0] >> 4;
+    reading->qfi = contents[1] & 0x3F;
+    reading->reflective = reading->pdu_type == KAWSARPA_DIRECTION_DOWNLINK ? contents[1] >> 6 & 1 : 0;
+}
+
+/* Walks the extensions: a length in units of four octets, contents, the next type. */
+static void read_extensions(struct packet_reading *reading, struct rest rest, unsigned int type)
+{
+    while (type != 0) {
+        if (rest.length == 0)
+            return;
+        const size_t extension = (size_t)rest.octets[0] * 4;
+        if (extension == 0 || extension > rest.length)
+            return;
+        if (type == EXTENSION_CONTAINER && !reading->has_container)
+            read_container(reading, rest.octets + 1);
+        type = rest.octets[extension - 1];
+        rest = behind(rest, extension);
+    }
+    reading->inner = rest.octets;
+    reading->inner_length = rest.length;
+}
+
+static void read_gtpu(struct packet_reading *reading, struct rest rest)
+{
+    if (rest.length < GTPU_HEADER || rest.octets[0] >> 4 != 3) /* version 1, PT 1 */
+        return;
+    const unsigned int flags = rest.octets[0] & 7;
+    reading->has_gtpu = true;
+    reading->message_type = rest.octets[1];
+    reading->teid = get32(rest.octets + 4);
+    rest = behind(rest, GTPU_HEADER);
+    if (flags == 0) {
+        read_extensions(reading, rest, 0);
+    } else if (rest.length >= GTPU_OPTIONAL) {
+        const unsigned int type = (flags & 4) != 0 ? rest.octets[3] : 0; /* counts only if E is set */
+        read_extensions(reading, behind(rest, GTPU_OPTIONAL), type);
+    }
+}
+
+static void read_upper(struct packet_reading *reading, struct rest rest)
+{
+    if (reading->next_header == NEXT_UDP && rest.length >= UDP_HEADER && get16(rest.octets + 2) == GTPU_PORT)
+        read_gtpu(reading, behind(rest, UDP_HEADER));
+}
+
+static struct rest read_srh(struct packet_reading *reading, struct rest rest)
+{
+    if (rest.length < SRH_FRONT || rest.octets[2] != ROUTING_TYPE_SRH)
+        return rest;
+    const size_t whole = SRH_FRONT + (size_t)rest.octets[1] * 8;
+    const size_t last_entry = rest.octets[4];
+    if (whole > rest.length)
+        return rest;
+    reading->has_srh = true;
+    reading->next_header = rest.octets[0];
+    reading->segments_left = rest.octets[3];
+    reading->segments = rest.octets + SRH_FRONT;
+    reading->segment_count = (whole - SRH_FRONT) / SEGMENT;
+    if (reading->segment_count > last_entry + 1) /* TLVs follow the segments */
+        reading->segment_count = last_entry + 1;
+    return behind(rest, whole);
+}
+
+static void read_ipv6(struct packet_reading *reading, struct rest rest)
+{
+    reading->version = 6;
+    reading->traffic_class = (uint8_t)(get16(rest.octets) >> 4 & 0xFF);
+    reading->next_header = rest.octets[6];
+    reading->source = rest.octets + 8;
+    reading->destination = rest.octets + 24;
+    rest = behind(rest, IPV6_HEADER);
+    if (reading->next_header == NEXT_ROUTING)
+        rest = read_srh(reading, rest);
+    read_upper(reading, rest);
+}
+
+static void read_ipv4(struct packet_reading *reading, struct rest rest)
+{
+    const size_t header = (size_t)(rest.octets[0] & 0x0F) * 4;
+    reading->version = 4;
+    reading->traffic_class = rest.octets[1];
+    reading->next_header = rest.octets[9];
+    reading->source = rest.octets + 12;
+    reading->destination = rest.octets + 16;
+    const bool later_fragment = (get16(rest.octets + 6) & 0x1FFF) != 0;
+    if (header >= IPV4_HEADER && header <= rest.length && !later_fragment)
+        read_upper(reading, behind(rest, header));
+}
+
+struct packet_reading packet_read(const uint8_t *packet, size_t length)
+{
+    struct packet_reading reading = {.length = length};
+    const struct rest whole = {packet, length};
+    if (length >= IPV6_HEADER && packet[0] >> 4 == 6)
+        read_ipv6(&reading, whole);
+    else if (length >= IPV4_HEADER && packet[0] >> 4 == 4)
+        read_ipv4(&reading, whole);
+    return reading;
+}
+
+static void say_address(FILE *to, unsigned int version, const uint8_t *address)
+{
+    char text[INET6_ADDRSTRLEN];
+    fputs(inet_ntop(version == 4 ? AF_INET : AF_INET6, address, text, sizeof text), to);
+}
+
+/* The segments that are still to come, in order of travel. */
+static void say_segments(FILE *to, const struct packet_reading *reading)
+{
+    fprintf(to, ", SL %u", reading->segments_left);
+    if (reading->segments_left > reading->segment_count)
+        return;
+    for (size_t i = reading->segments_left; i > 0; i--) {
+        fputs(i == reading->segments_left ? " then " : ", ", to);
+        say_address(to, 6, reading->segments + SEGMENT * (i - 1));
+    }
+}
+
+static void say_next_header(FILE *to, unsigned int next_header)
+{
+    if (next_header == NEXT_IPV4)
+        fputs(", IPv4 inside", to);
+    else if (next_header == NEXT_IPV6)
+        fputs(", IPv6 inside", to);
+    else if (next_header == NEXT_ETHERNET)
+        fputs(", Ethernet inside", to);
+    else
+        fprintf(to, ", next header %u", next_header);
+}
+
+static void say_message_type(FILE *to, unsigned int type)
+{
+    const char *name = type == G_PDU              ? "G-PDU"
+                       : type == END_MARKER       ? "End Marker"
+                       : type == ERROR_INDICATION ? "Error Indication"
+                       : type == ECHO_REQUEST     ? "Echo Request"
+                       : type == ECHO_RESPONSE    ? "Echo Response"
+                                                  : NULL;
+    if (name != NULL)
+        fprintf(to, ", %s", name);
+    else
+        fprintf(to, ", GTP-U type %u", type);
+}
+
+static void say_gtpu(FILE *to, const struct packet_reading *reading)
+{
+    say_message_type(to, reading->message_type);
+    fprintf(to, ", TEID 0x%08x", (unsigned int)reading->teid);
+    if (!reading->has_container)
+        return;
+    fprintf(to, ", QFI %u, R %u", reading->qfi, reading->reflective);
+    if (reading->pdu_type == KAWSARPA_DIRECTION_DOWNLINK)
+        fputs(", downlink", to);
+    else if (reading->pdu_type == KAWSARPA_DIRECTION_UPLINK)
+        fputs(", uplink", to);
+    else
+        fprintf(to, ", PDU type %u", reading->pdu_type);
+}
+
+void packet_describe(FILE *to, const uint8_t *packet, size_t length)
+{
+    const struct packet_reading reading = packet_read(packet, length);
+    if (reading.version == 0) {
+        fprintf(to, "%zu octets, no IP header", length);
+        return;
+    }
+    fprintf(to, "IPv%u ", reading.version);
+    say_address(to, reading.version, reading.source);
+    fputs(" > ", to);
+    say_address(to, reading.version, reading.destination);
+    fprintf(to, ", traffic class 0x%02x", reading.traffic_class);
+    if (reading.has_srh)
+        say_segments(to, &reading);
+    if (reading.has_gtpu)
+        say_gtpu(to, &reading);
+    else
+        say_next_header(to, reading.next_header);
+    fprintf(to, ", %zu octets", length);
+}

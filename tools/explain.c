@@ -1,0 +1,126 @@
+/* kawsarpa explain: what a number of the library means, and what to look at on site. */
+#include <argp.h>
+#include <errno.h>
+#include <stdbool.h>
+#include <stdlib.h>
+#include <string.h>
+
+#include "commands.h"
+#include "kawsarpa.h"
+#include "say.h"
+#include "words.h"
+
+struct options {
+    bool fault;
+    const char *number;
+};
+
+static const struct argp_option option_list[] = {
+    {"fault", 'f', NULL, 0, "NUMBER is a table's fault, as `kawsarpa check' prints it and kawsarpa_table_fault gives it", 0},
+    {NULL, 0, NULL, 0, NULL, 0},
+};
+
+static error_t parse(int key, char *argument, struct argp_state *state)
+{
+    struct options *options = state->input;
+    switch (key) {
+    case 'f':
+        options->fault = true;
+        return 0;
+    case ARGP_KEY_ARG:
+        if (options->number != NULL)
+            argp_error(state, "one number is enough: %s", argument);
+        options->number = argument;
+        return 0;
+    case ARGP_KEY_NO_ARGS:
+        argp_error(state, "a number is needed");
+        return 0;
+    default:
+        return ARGP_ERR_UNKNOWN;
+    }
+}
+
+static const char help_text[] =
+    "Says what an answer from 0 to 16 means, what it is likely to come from, and what to do next; or, with --fault, what is wrong with a "
+    "table. NUMBER is decimal, or hexadecimal behind 0x."
+    "\vExit codes: 0 explained; 1 there is no such number; 2 wrong usage; 3 the system failed.";
+
+static const struct argp argp = {option_list, parse, "NUMBER", help_text, NULL, NULL, NULL};
+
+static bool read_number(const char *text, unsigned long long *number)
+{
+    const bool hexadecimal = text[0] == '0' && (text[1] == 'x' || text[1] == 'X');
+    const char *digits = hexadecimal ? text + 2 : text;
+    char *end = NULL;
+    errno = 0;
+    *number = strtoull(digits, &end, hexadecimal ? 16 : 10);
+    return errno == 0 && end != digits && *end == 0 && digits[0] != '-' && digits[0] != '+' && digits[0] != ' ' &&
+           !(hexadecimal && (digits[1] == 'x' || digits[1] == 'X'));
+}
+
+enum { INDENT = 12, WIDTH = 100 };
+
+/* A heading, and words behind it on as many lines as they take. */
+static void print_words(const char *heading, const char *text)
+{
+    size_t column = (size_t)printf("%-*s", INDENT - 1, heading);
+    while (*text != 0) {
+        const size_t length = strcspn(text, " ");
+        if (column + 1 + length > WIDTH)
+            column = (size_t)printf("\n%*s", INDENT - 1, "") - 1;
+        column += (size_t)printf(" %.*s", (int)length, text);
+        text += length;
+        text += *text == ' ';
+    }
+    putchar('\n');
+}
+
+static int explain_answer(const char *text, unsigned long long number)
+{
+    const struct answer_words *answer = answer_words(number);
+    if (answer == NULL) {
+        say_error("%s is no answer: answers are 0 to %d", text, KAWSARPA_ANSWER_NO_ROOM);
+        return EXIT_INPUT;
+    }
+    printf("%llu: %s\n", number, kawsarpa_answer_name((unsigned int)number));
+    print_words("Given when:", answer->given_when);
+    print_words("ICMPv6:", answer->icmp == NULL ? "none" : answer->icmp);
+    print_words("Likely:", answer->likely);
+    print_words("Next step:", answer->next);
+    return EXIT_DONE;
+}
+
+static int explain_fault(const char *text, unsigned long long fault)
+{
+    const unsigned int record = kawsarpa_fault_record(fault);
+    const unsigned int condition = kawsarpa_fault_condition(fault);
+    const unsigned int index = kawsarpa_fault_index(fault);
+    const struct fault_words *broken = fault_words(record, condition);
+    if (fault == 0) {
+        puts("0: the table is sound");
+        return EXIT_DONE;
+    }
+    if (broken == NULL || fault >> 32 != 0) {
+        say_error("%s is no fault of a table: a fault is condition + 256 * record + 65536 * number, as `kawsarpa check' prints it", text);
+        return EXIT_INPUT;
+    }
+    if (record == RECORD_HEADER)
+        printf("%llu: the header, condition %u\n", fault, condition);
+    else
+        printf("%llu: %s %u (from 1), condition %u\n", fault, record_name(record), index + 1, condition);
+    print_words("Broken:", broken->broken);
+    print_words("Next step:", broken->next);
+    return EXIT_DONE;
+}
+
+int command_explain(int argc, char **argv)
+{
+    struct options options = {false, NULL};
+    unsigned long long number = 0;
+    argp_parse(&argp, argc, argv, 0, NULL, &options);
+    if (!read_number(options.number, &number)) {
+        say_error("%s is no number", options.number);
+        return EXIT_USAGE;
+    }
+    return options.fault ? explain_fault(options.number, number) : explain_answer(options.number, number);
+}

@@ -1,0 +1,50 @@
+/* Whole files in, whole files out. The name "-" is standard input or standard output. */
+#ifndef FILE_H
+#define FILE_H
+
+#include <stdbool.h>
+#include <stddef.h>
+#include <stdint.h>
+#include <stdio.h>
+
+struct octets {
+    uint8_t *at; /* never NULL after file_read; the caller frees it */
+    size_t count;
+};
+
+/* Takes the places of standard streams that are closed, so that no file gets them; to use one of them fails. */
+void file_hold_standard(void);
+
+/* How a file is called in messages. */
+const char *file_shown_name(const char *name, const char *standard_stream);
+
+/* Reads all octets of a file. One with more octets than `most` is refused. 0, or the exit code after the fault was reported. */
+int file_read(const char *name, size_t most, struct octets *octets);
+
+/* Whether two names are of one regular file, which would be replaced by what is made of it. */
+bool file_same(const char *a, const char *b);
+
+/* A file that appears under its name only when it is whole. */
+struct output {
+    const char *name; /* for messages */
+    char *final;      /* the name behind all links; NULL where the file is written in place */
+    char *temporary;  /* the name until then */
+    FILE *file;       /* NULL: nothing is open */
+};
+
+/* 0, or the exit code after the fault was reported. */
+int output_open(struct output *output, const char *name);
+
+/* Closes the file and gives it its name. 0, or the exit code after the fault was reported; then nothing new has the name. */
+int output_commit(struct output *output);
+
+/* Closes and removes what was written so far. Does nothing to an output that is not open. */
+void output_abandon(struct output *output);
+
+/* Reports a write that failed, by errno; the exit code. */
+int output_fault(const struct output *output);
+
+/* Closes standard output at the end of the program. False: something was not written, and that was reported. */
+bool output_close_standard(void);
+
+#endif

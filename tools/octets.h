@@ -1,0 +1,17 @@
+/* Big-endian numbers in octets. The caller sees to it that the octets are there. */
+#ifndef OCTETS_H
+#define OCTETS_H
+
+#include <stdint.h>
+
+static inline uint16_t get16(const uint8_t *octets)
+{
+    return (uint16_t)(octets[0] << 8 | octets[1]);
+}
+
+static inline uint32_t get32(const uint8_t *octets)
+{
+    return (uint32_t)get16(octets) << 16 | get16(octets + 2);
+}
+
+#endif

@@ -1,0 +1,41 @@
+#include "stop.h"
+
+#include <stdlib.h>
+
+#include "commands.h"
+#include "kawsarpa.h"
+#include "table.h"
+
+uint64_t stop_call(const struct stop *stop, unsigned int version, const uint8_t *packet, size_t length, uint8_t out[STOP_ROOM])
+{
+    return version == 4 ? kawsarpa_call_ipv4(packet, length, stop->table, stop->table_length, out, STOP_ROOM)
+                        : kawsarpa_call_ipv6(packet, length, stop->table, stop->table_length, out, STOP_ROOM);
+}
+
+int stop_load(struct stop *stop, const char *name)
+{
+    struct octets table;
+    const int code = table_read_sound(name, &table);
+    if (code == EXIT_DONE)
+        *stop = (struct stop){table.at, table.count};
+    return code;
+}
+
+void stop_free(struct stop *stop)
+{
+    free(stop->table);
+    stop->table = NULL;
+}
+
+void stop_say_answer(FILE *to, uint64_t answer)
+{
+    const unsigned int number = kawsarpa_answer_number(answer);
+    if (number == KAWSARPA_ANSWER_SENT) {
+        fputs(kawsarpa_answer_name(number), to);
+        return;
+    }
+    fprintf(to, "refused, %u %s", number, kawsarpa_answer_name(number));
+    if (kawsarpa_answer_icmp_type(answer) != 0)
+        fprintf(to, " (ICMPv6 type %u, code %u, pointer %u)", kawsarpa_answer_icmp_type(answer), kawsarpa_answer_icmp_code(answer),
+                kawsarpa_answer_icmp_pointer(answer));
+}

@@ -1,0 +1,43 @@
+/* A compiled table: its octets, its records where they stand in them, and the library's judgement. */
+#ifndef TABLE_H
+#define TABLE_H
+
+#include <stdbool.h>
+#include <stddef.h>
+#include <stdint.h>
+#include <stdio.h>
+
+#include "file.h"
+#include "kawsarpa.h"
+
+/* Longer than the largest table, so that the library judges every length that a table may have by mistake. */
+enum { TABLE_READ_MOST = 1 << 20 };
+
+/* The records of a table whose header is sound. */
+struct table_records {
+    unsigned int entry_count, rule_count, policy_count;
+    const struct kawsarpa_entry *entries;
+    const struct kawsarpa_rule *rules;
+    const struct kawsarpa_policy *policies;
+};
+
+struct table_records table_records(const struct octets *table);
+
+/* Reads a table that the library finds sound. 0, or the exit code after the fault was reported. */
+int table_read_sound(const char *name, struct octets *table);
+
+/* Says which record of the table breaks which condition. */
+void table_say_fault(const char *name, const struct octets *table, uint64_t fault);
+
+/* Whether the fault is an entry or rule whose prefix and length an earlier one has. */
+bool fault_is_same_prefix(uint64_t fault);
+
+/* The earlier entry or rule with the prefix and length of this one; without one, this one. */
+unsigned int table_earlier(const struct table_records *records, unsigned int record, unsigned int index);
+
+/* "2001:db8::/32", "192.0.2.0/24". */
+enum { PREFIX_ROOM = 64 };
+void entry_prefix_text(const struct kawsarpa_entry *entry, char text[PREFIX_ROOM]);
+void rule_prefix_text(const struct kawsarpa_rule *rule, char text[PREFIX_ROOM]);
+
+#endif

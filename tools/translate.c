@@ -1,0 +1,168 @@
+/* kawsarpa translate: every packet of a capture through the library, with one table. */
+#include <argp.h>
+#include <stdbool.h>
+#include <stdint.h>
+#include <stdio.h>
+#include <string.h>
+
+#include "capture.h"
+#include "commands.h"
+#include "describe.h"
+#include "file.h"
+#include "kawsarpa.h"
+#include "progress.h"
+#include "stop.h"
+
+struct arguments {
+    const char *table;
+    const char *in;
+    const char *out;
+    bool trace;
+};
+
+struct run {
+    struct stop stop;
+    struct capture_reader reader;
+    struct output out;
+    FILE *account; /* where the trace and the summary go */
+    bool trace;
+    unsigned long answers[UINT8_MAX + 1];
+    size_t longest_in;
+    size_t longest_sent;
+};
+
+static void say_trace(const struct run *run, const struct capture_packet *packet, uint64_t answer)
+{
+    fprintf(run->account, "packet %lu: ", packet->number);
+    stop_say_answer(run->account, answer);
+    fputs(": ", run->account);
+    packet_describe(run->account, packet->octets, packet->length);
+    fputc('\n', run->account);
+}
+
+static size_t larger(size_t a, size_t b)
+{
+    return a > b ? a : b;
+}
+
+/* Translates one packet; the exit code, not 0 where what was sent could not be written. */
+static int translate_packet(struct run *run, const struct capture_packet *packet)
+{
+    static uint8_t sent[STOP_ROOM];
+    const uint64_t answer = stop_call(&run->stop, packet->version, packet->octets, packet->length, sent);
+    run->answers[kawsarpa_answer_number(answer)]++;
+    if (run->trace)
+        say_trace(run, packet, answer);
+    if (kawsarpa_answer_number(answer) != KAWSARPA_ANSWER_SENT)
+        return EXIT_DONE;
+    run->longest_in = larger(run->longest_in, packet->length);
+    run->longest_sent = larger(run->longest_sent, kawsarpa_answer_length(answer));
+    const bool added = capture_add(run->out.file, packet->time, sent, kawsarpa_answer_length(answer));
+    return added ? EXIT_DONE : output_fault(&run->out);
+}
+
+/* From the reader into the output, packet by packet; the exit code. */
+static int translate_all(struct run *run)
+{
+    struct capture_packet packet;
+    struct progress progress = progress_begin();
+    int code = capture_begin(run->out.file) ? EXIT_DONE : output_fault(&run->out);
+    while (code == EXIT_DONE && capture_next(&run->reader, &packet)) {
+        code = translate_packet(run, &packet);
+        progress_at(&progress, packet.number);
+    }
+    progress_end(&progress);
+    return code == EXIT_DONE ? run->reader.code : code;
+}
+
+static void say_summary(const struct run *run)
+{
+    capture_say_counts(run->account, &run->reader.counts);
+    for (unsigned int number = 0; number <= UINT8_MAX; number++)
+        if (run->answers[number] > 0)
+            fprintf(run->account, "%8lu  %2u %s\n", run->answers[number], number, kawsarpa_answer_name(number));
+    if (run->longest_sent > 0)
+        fprintf(run->account, "longest packet: %zu octets in, %zu sent\n", run->longest_in, run->longest_sent);
+}
+
+static int translate_into(struct run *run, const char *out)
+{
+    int code = output_open(&run->out, out);
+    if (code != EXIT_DONE)
+        return code;
+    code = translate_all(run);
+    if (code != EXIT_DONE) {
+        output_abandon(&run->out);
+        return code;
+    }
+    code = output_commit(&run->out);
+    if (code == EXIT_DONE)
+        say_summary(run);
+    return code;
+}
+
+static int translate_capture(struct run *run, const struct arguments *arguments)
+{
+    int code = capture_open(&run->reader, arguments->in);
+    if (code != EXIT_DONE)
+        return code;
+    code = translate_into(run, arguments->out);
+    capture_close(&run->reader);
+    return code;
+}
+
+/* Options without a short name have numbers past those of characters. */
+enum { OPTION_TABLE = 256, OPTION_TRACE };
+
+static error_t parse(int key, char *value, struct argp_state *state)
+{
+    struct arguments *arguments = state->input;
+    switch (key) {
+    case OPTION_TABLE:
+        arguments->table = value;
+        return 0;
+    case OPTION_TRACE:
+        arguments->trace = true;
+        return 0;
+    case ARGP_KEY_ARG:
+        if (state->arg_num >= 2)
+            argp_error(state, "two captures are enough: %s", value);
+        *(state->arg_num == 0 ? &arguments->in : &arguments->out) = value;
+        return 0;
+    case ARGP_KEY_END:
+        if (arguments->table == NULL || arguments->out == NULL)
+            argp_error(state, "--table, IN.pcap and OUT.pcap are needed");
+        return 0;
+    default:
+        return ARGP_ERR_UNKNOWN;
+    }
+}
+
+static const struct argp_option option_list[] = {
+    {"table", OPTION_TABLE, "TABLE", 0, "the table to translate by", 0},
+    {"trace", OPTION_TRACE, NULL, 0, "print a line for each packet", 0},
+    {NULL, 0, NULL, 0, NULL, 0},
+};
+
+static const char words[] =
+    "Makes the call of its IP version for each packet of a capture, and counts the answers. IN.pcap is a pcap or pcapng capture of Ethernet, "
+    "Linux cooked or raw IP. OUT.pcap gets what is sent, as raw IP with the times of the packets that went in. Frames that are not IP or "
+    "are snapped are left out and counted; padding of the link is cut off. TABLE, IN.pcap and OUT.pcap may be `-'; if OUT.pcap is, all else is printed on standard error."
+    "\vExit codes: 0 written; 1 the capture is bad, or the table not sound; 2 wrong usage; 3 the system failed.";
+
+static const struct argp argp = {option_list, parse, "--table TABLE IN.pcap OUT.pcap", words, NULL, NULL, NULL};
+
+int command_translate(int argc, char **argv)
+{
+    struct arguments arguments = {NULL, NULL, NULL, false};
+    argp_parse(&argp, argc, argv, 0, NULL, &arguments);
+    if (capture_is_input(arguments.out, arguments.in))
+        return EXIT_USAGE;
+    struct run run = {.account = strcmp(arguments.out, "-") == 0 ? stderr : stdout, .trace = arguments.trace};
+    int code = stop_load(&run.stop, arguments.table);
+    if (code != EXIT_DONE)
+        return code;
+    code = translate_capture(&run, &arguments);
+    stop_free(&run.stop);
+    return code;
+}

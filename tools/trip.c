@@ -1,0 +1,271 @@
+/* kawsarpa trip: the packets of a capture through a whole trip, with what left each stop. */
+#include <argp.h>
+#include <stdbool.h>
+#include <stdint.h>
+#include <stdio.h>
+#include <string.h>
+
+#include "capture.h"
+#include "commands.h"
+#include "describe.h"
+#include "file.h"
+#include "kawsarpa.h"
+#include "progress.h"
+#include "stop.h"
+
+/* The near gateway, the waypoints, the far gateway. */
+enum { STOPS_MAX = KAWSARPA_WAYPOINTS_MAX + 2 };
+
+struct arguments {
+    const char *near;
+    const char *via[KAWSARPA_WAYPOINTS_MAX];
+    size_t via_count;
+    const char *far;
+    const char *in;
+    const char *out; /* NULL: what comes out is not kept */
+};
+
+struct trip {
+    struct stop stops[STOPS_MAX];
+    size_t stop_count;
+    struct capture_reader reader;
+    struct output out;
+    FILE *account;
+    unsigned long arrived;
+    unsigned long unchanged; /* of those, what carries all that went in */
+};
+
+/* A packet on its way. */
+struct parcel {
+    const uint8_t *octets;
+    size_t length;
+};
+
+static void say_stop(const struct trip *trip, size_t stop)
+{
+    if (stop == 0)
+        fputs("  near: ", trip->account);
+    else if (stop + 1 == trip->stop_count)
+        fputs("  far: ", trip->account);
+    else
+        fprintf(trip->account, "  via %zu: ", stop);
+}
+
+/* Sends a packet through every stop. What leaves the last one, or nothing after a refusal. */
+static struct parcel walk(const struct trip *trip, const struct capture_packet *packet)
+{
+    static uint8_t buffers[2][STOP_ROOM]; /* what arrives at a stop and what leaves it */
+    struct parcel here = {packet->octets, packet->length};
+    unsigned int version = packet->version;
+    for (size_t i = 0; i < trip->stop_count; i++) {
+        uint8_t *sent = buffers[i % 2];
+        const uint64_t answer = stop_call(&trip->stops[i], version, here.octets, here.length, sent);
+        say_stop(trip, i);
+        stop_say_answer(trip->account, answer);
+        if (kawsarpa_answer_number(answer) != KAWSARPA_ANSWER_SENT) {
+            fputc('\n', trip->account);
+            return (struct parcel){NULL, 0};
+        }
+        here = (struct parcel){sent, kawsarpa_answer_length(answer)};
+        version = sent[0] >> 4;
+        fputs(": ", trip->account);
+        packet_describe(trip->account, here.octets, here.length);
+        fputc('\n', trip->account);
+    }
+    return here;
+}
+
+static bool same_address(const struct packet_reading *in, const struct packet_reading *out, const uint8_t *a, const uint8_t *b)
+{
+    return in->version != 0 && in->version == out->version && memcmp(a, b, in->version == 4 ? 4 : 16) == 0;
+}
+
+static bool same_inner(const struct packet_reading *in, const struct packet_reading *out)
+{
+    return in->inner != NULL && out->inner != NULL && in->inner_length == out->inner_length &&
+           memcmp(in->inner, out->inner, in->inner_length) == 0;
+}
+
+/* Says what differs between what went in and what came out; true: nothing. What one of them does not have differs. */
+static bool compare(FILE *to, const struct packet_reading *in, const struct packet_reading *out)
+{
+    const bool gtpu = in->has_gtpu && out->has_gtpu;
+    const bool container = in->has_container && out->has_container;
+    const struct {
+        const char *name;
+        bool same;
+    } parts[] = {
+        /* over IPv4 the source is carried too; over IPv6 it is the far gateway's */
+        {"source", in->version != 4 || same_address(in, out, in->source, out->source)},
+        {"destination", same_address(in, out, in->destination, out->destination)},
+        {"TEID", gtpu && in->teid == out->teid},
+        {"QFI", container && in->qfi == out->qfi},
+        {"R", container && in->reflective == out->reflective},
+        {"traffic class", in->traffic_class == out->traffic_class},
+        {"inner octets", same_inner(in, out)},
+    };
+    unsigned int differing = 0;
+    for (size_t i = 0; i < sizeof parts / sizeof parts[0]; i++)
+        if (!parts[i].same)
+            fprintf(to, "%s%s", differing++ == 0 ? "  arrived, but not as it went in: " : ", ", parts[i].name);
+    if (differing == 0)
+        fprintf(to, "  arrived with the destination, TEID, QFI, R, traffic class and %zu inner octets that went in", in->inner_length);
+    fputc('\n', to);
+    return differing == 0;
+}
+
+/* One packet's trip; the exit code, not 0 where what came out could not be written. */
+static int send_packet(struct trip *trip, const struct capture_packet *packet)
+{
+    fprintf(trip->account, "packet %lu: ", packet->number);
+    packet_describe(trip->account, packet->octets, packet->length);
+    fputc('\n', trip->account);
+    const struct parcel out = walk(trip, packet);
+    if (out.octets == NULL)
+        return EXIT_DONE;
+    const struct packet_reading went_in = packet_read(packet->octets, packet->length);
+    const struct packet_reading came_out = packet_read(out.octets, out.length);
+    trip->arrived++;
+    trip->unchanged += compare(trip->account, &went_in, &came_out);
+    const bool added = trip->out.file == NULL || capture_add(trip->out.file, packet->time, out.octets, out.length);
+    return added ? EXIT_DONE : output_fault(&trip->out);
+}
+
+/* All packets, one after the other; the exit code. */
+static int send_all(struct trip *trip)
+{
+    struct capture_packet packet;
+    struct progress progress = progress_begin();
+    const bool begun = trip->out.file == NULL || capture_begin(trip->out.file);
+    int code = begun ? EXIT_DONE : output_fault(&trip->out);
+    while (code == EXIT_DONE && capture_next(&trip->reader, &packet)) {
+        code = send_packet(trip, &packet);
+        progress_at(&progress, packet.number);
+    }
+    progress_end(&progress);
+    return code == EXIT_DONE ? trip->reader.code : code;
+}
+
+/* The last lines; the exit code that they make. */
+static int say_summary(const struct trip *trip)
+{
+    const unsigned long packets = trip->reader.counts.packets;
+    capture_say_counts(trip->account, &trip->reader.counts);
+    fprintf(trip->account, "%lu of %lu packets arrived, %lu of them with the destination, TEID, QFI, R, traffic class and inner octets "
+            "that went in\n", trip->arrived, packets, trip->unchanged);
+    return trip->unchanged == packets ? EXIT_DONE : EXIT_INPUT;
+}
+
+static int trip_into(struct trip *trip, const char *out)
+{
+    int code = out == NULL ? EXIT_DONE : output_open(&trip->out, out);
+    if (code != EXIT_DONE)
+        return code;
+    code = send_all(trip);
+    if (code != EXIT_DONE) {
+        output_abandon(&trip->out);
+        return code;
+    }
+    code = out == NULL ? EXIT_DONE : output_commit(&trip->out);
+    return code == EXIT_DONE ? say_summary(trip) : code;
+}
+
+static int trip_capture(struct trip *trip, const struct arguments *arguments)
+{
+    int code = capture_open(&trip->reader, arguments->in);
+    if (code != EXIT_DONE)
+        return code;
+    code = trip_into(trip, arguments->out);
+    capture_close(&trip->reader);
+    return code;
+}
+
+/* Loads the next stop's table; the exit code. */
+static int add_stop(struct trip *trip, const char *name)
+{
+    const int code = stop_load(&trip->stops[trip->stop_count], name);
+    if (code == EXIT_DONE)
+        trip->stop_count++;
+    return code;
+}
+
+static int add_stops(struct trip *trip, const struct arguments *arguments)
+{
+    int code = add_stop(trip, arguments->near);
+    for (size_t i = 0; code == EXIT_DONE && i < arguments->via_count; i++)
+        code = add_stop(trip, arguments->via[i]);
+    return code == EXIT_DONE ? add_stop(trip, arguments->far) : code;
+}
+
+static void add_via(struct argp_state *state, struct arguments *arguments, const char *value)
+{
+    if (arguments->via_count == KAWSARPA_WAYPOINTS_MAX)
+        argp_error(state, "a trip has at most %d waypoints", KAWSARPA_WAYPOINTS_MAX);
+    arguments->via[arguments->via_count++] = value;
+}
+
+/* Options without a short name have numbers past those of characters. */
+enum { OPTION_NEAR = 256, OPTION_VIA, OPTION_FAR };
+
+static error_t parse(int key, char *value, struct argp_state *state)
+{
+    struct arguments *arguments = state->input;
+    switch (key) {
+    case OPTION_NEAR:
+        arguments->near = value;
+        return 0;
+    case OPTION_VIA:
+        add_via(state, arguments, value);
+        return 0;
+    case OPTION_FAR:
+        arguments->far = value;
+        return 0;
+    case 'o':
+        arguments->out = value;
+        return 0;
+    case ARGP_KEY_ARG:
+        if (arguments->in != NULL)
+            argp_error(state, "one capture is enough: %s", value);
+        arguments->in = value;
+        return 0;
+    case ARGP_KEY_END:
+        if (arguments->near == NULL || arguments->far == NULL || arguments->in == NULL)
+            argp_error(state, "--near, --far and a capture are needed");
+        return 0;
+    default:
+        return ARGP_ERR_UNKNOWN;
+    }
+}
+
+static const struct argp_option option_list[] = {
+    {"near", OPTION_NEAR, "TABLE", 0, "the table of the gateway where packets go in", 0},
+    {"via", OPTION_VIA, "TABLE", 0, "the table of a waypoint; given once for each, in order of travel", 0},
+    {"far", OPTION_FAR, "TABLE", 0, "the table of the gateway where packets come out", 0},
+    {"output", 'o', "OUT.pcap", 0, "keep what comes out, as raw IP with the times of the packets that went in", 0},
+    {NULL, 0, NULL, 0, NULL, 0},
+};
+
+static const char words[] =
+    "Sends each IP packet of a capture through all stops of a trip, prints what leaves each, and compares what comes out with what went in. "
+    "IN.pcap is a pcap or pcapng capture of Ethernet, Linux cooked or raw IP. A TABLE, IN.pcap and OUT.pcap may be `-'; if "
+    "OUT.pcap is, all else is printed on standard error."
+    "\vExit codes: 0 every packet arrived with what went in; 1 one did not, the capture is bad, or a table not sound; 2 wrong usage; "
+    "3 the system failed.";
+
+static const struct argp argp = {option_list, parse, "--near TABLE [--via TABLE]... --far TABLE IN.pcap", words, NULL, NULL, NULL};
+
+int command_trip(int argc, char **argv)
+{
+    struct arguments arguments = {0};
+    argp_parse(&argp, argc, argv, 0, NULL, &arguments);
+    if (arguments.out != NULL && capture_is_input(arguments.out, arguments.in))
+        return EXIT_USAGE;
+    const bool to_standard_output = arguments.out != NULL && strcmp(arguments.out, "-") == 0;
+    struct trip trip = {.account = to_standard_output ? stderr : stdout};
+    int code = add_stops(&trip, &arguments);
+    if (code == EXIT_DONE)
+        code = trip_capture(&trip, &arguments);
+    for (size_t i = 0; i < trip.stop_count; i++)
+        stop_free(&trip.stops[i]);
+    return code;
+}

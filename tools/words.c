@@ -1,0 +1,204 @@
+#include "words.h"
+
+#include <string.h>
+
+#include "kawsarpa.h"
+
+const struct word behaviours[] = {
+    {KAWSARPA_BEHAVIOUR_END, "End"},
+    {KAWSARPA_BEHAVIOUR_END_M_GTP6_D, "End.M.GTP6.D"},
+    {KAWSARPA_BEHAVIOUR_END_M_GTP6_D_DI, "End.M.GTP6.D.Di"},
+    {KAWSARPA_BEHAVIOUR_END_M_GTP6_E, "End.M.GTP6.E"},
+    {KAWSARPA_BEHAVIOUR_END_M_GTP4_E, "End.M.GTP4.E"},
+    {0, NULL},
+};
+
+const struct word directions[] = {
+    {KAWSARPA_DIRECTION_DOWNLINK, "downlink"},
+    {KAWSARPA_DIRECTION_UPLINK, "uplink"},
+    {0, NULL},
+};
+
+const struct word session_types[] = {
+    {KAWSARPA_SESSION_IPV4, "IPv4"},
+    {KAWSARPA_SESSION_IPV6, "IPv6"},
+    {KAWSARPA_SESSION_IPV4V6, "IPv4v6"},
+    {KAWSARPA_SESSION_ETHERNET, "Ethernet"},
+    {0, NULL},
+};
+
+const struct word *word_numbered(const struct word *words, unsigned int number)
+{
+    for (; words->name != NULL; words++)
+        if (words->number == number)
+            return words;
+    return NULL;
+}
+
+const struct word *word_named(const struct word *words, const char *name)
+{
+    for (; words->name != NULL; words++)
+        if (strcmp(words->name, name) == 0)
+            return words;
+    return NULL;
+}
+
+/* By answer number. The first words are those of the table of answers; D4 is H.M.GTP4.D, what an IPv4 rule does. */
+static const struct answer_words answers[] = {
+    {"No other number applies: the packet was translated, or passed on at a waypoint.",
+     NULL,
+     "Nothing is wrong here.",
+     "If the packet is missing further on, look at the next stop: `kawsarpa trip' follows a packet over several tables."},
+    {"The table is not sound.",
+     NULL,
+     "The table was cut short on its way to the box, made by a program other than `kawsarpa compile', or is of another format. "
+     "Every packet is refused so, until the table is replaced.",
+     "Run `kawsarpa check TABLE' on the very file that the box has loaded; it names the record and the condition."},
+    {"The packet is shorter than an IPv6 header (40 octets; IPv4: 20), has the wrong IP version for the call, or its length field "
+     "disagrees with the octets that were handed over.",
+     NULL,
+     "The forwarder hands over link-layer padding or a trailer behind a short packet, cuts a packet short, leaves the Ethernet header "
+     "in front, or makes the IPv4 call for an IPv6 packet.",
+     "Capture at the box's port and compare the length field with the octets in the frame; padding must go before the call."},
+    {"IPv4: the header length is not 5 (options), the header checksum is wrong, or the packet is a fragment.",
+     NULL,
+     "Fragments: the path between base station and gateway has too small an MTU for GTP-U, or the base station does not set DF. "
+     "Wrong checksum in a capture taken on the sending host: checksum offload, harmless there.",
+     "Look for fragments (MF set or an offset) in the capture. `kawsarpa check TABLE' prints the MTU that the path needs."},
+    {"No entry (IPv6) or rule (IPv4) of the table matches the destination address.",
+     NULL,
+     "The table lacks a prefix, or the prefix is longer than meant; the packet was routed to the wrong box; or an old table is loaded.",
+     "Compare the packet's destination with the prefixes that `kawsarpa show TABLE' prints."},
+    {"The header chain: next header 0, 44 or 60 in it, a second routing header, a routing type other than 4, an SRH cut short, or no SRH "
+     "at an End.M.GTP6.E entry.",
+     NULL,
+     "IPv6 fragments (44), hop-by-hop or destination options (0, 60) set by a host or by a router on the way; at End.M.GTP6.E a "
+     "sender that leaves the SRH out, which End.M.GTP6.D.Di of this library never does.",
+     "Read the next headers in a capture. For 44, raise the MTU of the path; without SRH, look at the table of the sending gateway."},
+    {"At a waypoint with segments left, the hop limit arrived as 0 or 1.",
+     "Time Exceeded (3) code 0",
+     "A routing loop, or the hop limit of the near entry or rule is too small for the path.",
+     "Trace the route to the next segment; compare the hop limit in `kawsarpa show TABLE' of the near gateway with the hops on the way."},
+    {"Segments Left: not 0 at End.M.GTP6.D, End.M.GTP6.D.Di or End.M.GTP4.E, not 1 at End.M.GTP6.E; or, at End.M.GTP6.E and at a waypoint "
+     "with segments left, Last Entry is beyond the segments held; or, at that waypoint, Segments Left is above Last Entry + 1.",
+     "Parameter Problem (4) code 0, pointer 43",
+     "The packet skipped a waypoint or came too early to its gateway: a prefix is too wide and catches another segment's address. "
+     "At End.M.GTP6.E with 0: the sender used End.M.GTP6.D where End.M.GTP6.D.Di is needed.",
+     "Read Segments Left and the segment list in a capture; look for an entry of `kawsarpa show TABLE' whose prefix covers two segments."},
+    {"The upper layer: at End.M.GTP6.D and End.M.GTP6.D.Di not UDP to port 2152; at End.M.GTP6.E and End.M.GTP4.E a next header that is "
+     "not the session type's; at a waypoint Segments Left 0 or no SRH; at an IPv4 rule not UDP to port 2152.",
+     "Parameter Problem (4) code 4, pointer at the upper-layer header; none for IPv4",
+     "At a gateway: ICMP, pings or routing protocols sent to the SID; near and far tables with different session types. At a waypoint: "
+     "the waypoint was made the last segment of a path.",
+     "Read the next header in a capture: 17 is UDP, 4, 41 and 143 are IPv4, IPv6 and Ethernet sessions. Compare the session types of the "
+     "near and the far table."},
+    {"The UDP header has fewer than 8 octets, or the UDP length disagrees with the packet.",
+     NULL,
+     "The packet was cut short, or something stands behind the UDP datagram.",
+     "Compare the UDP length with the length of the IP payload in a capture."},
+    {"The GTP-U header is cut short, is not version 1 or not PT 1, or its length disagrees with the datagram.",
+     NULL,
+     "Something that is not GTP-U is sent to port 2152, GTP' (PT 0) is used, or the packet was cut short.",
+     "Read the first GTP-U octet in a capture: it is 3x. Compare the length field with the octets behind the first 8."},
+    {"The GTP-U message is not a G-PDU (type 255).",
+     NULL,
+     "Echo Requests (1) of a base station, Error Indications (26) or End Markers (254). They carry no user packet and are not translated.",
+     "A few are normal. If the base station takes the path down, its Echo Requests need an answer from elsewhere."},
+    {"A GTP-U extension header of a type other than 0x85, a second PDU Session container, or a unit count that is 0 or passes the end.",
+     NULL,
+     "The base station or UPF adds extension headers, such as PDCP PDU Number or RAN Container, that the gateway does not carry.",
+     "Read the extension types in a capture, and switch the feature that adds them off."},
+    {"The packet has no PDU Session container, or its direction is not that of the entry or rule.",
+     NULL,
+     "A 4G (LTE) peer, which sends no container; or the direction in the table is the wrong way round.",
+     "Read the container's PDU type in a capture: 0 is downlink, 1 is uplink. Compare with the direction in `kawsarpa show TABLE'."},
+    {"The session type is IPv4v6 and the inner packet is empty, or is neither IPv4 nor IPv6.",
+     NULL,
+     "The session is an Ethernet session, or unstructured, and the table says IPv4v6.",
+     "Read the first octet behind the GTP-U headers: 4x is IPv4, 6x is IPv6. Compare the session type with that of the session."},
+    {"A length field of the packet to send would pass 65,535.",
+     NULL,
+     "An inner packet near the largest possible. No link carries such a packet; it comes from a test, or from segmentation offload.",
+     "Switch receive offload (GRO, LRO) off where the packets enter the box."},
+    {"The output buffer is shorter than the packet to send.",
+     NULL,
+     "The program that calls the library lends too small a buffer: what is sent has up to 132 octets more than what arrived.",
+     "Report it to whoever writes that program. `kawsarpa check TABLE' prints how much each entry adds."},
+};
+
+const struct answer_words *answer_words(unsigned long number)
+{
+    return number < sizeof answers / sizeof answers[0] ? &answers[number] : NULL;
+}
+
+/* By record and condition; conditions count from 1. */
+static const struct fault_words header_faults[] = {
+    {"the format is not 1", "The file is no table, or one for another version of the library: compile the description again.", NULL},
+    {"more than 64 entries", "Divide the entries over several boxes.", NULL},
+    {"more than 16 rules", "Join rules with neighbouring prefixes, or divide them over several boxes.", NULL},
+    {"more than 16 policies", "Let entries share policies: one policy serves any number of entries.", NULL},
+    {"the length is not that of the records that are counted",
+     "The file was cut short, or something stands behind the table: copy it again.", NULL},
+};
+
+static const struct fault_words entry_faults[] = {
+    {"the behaviour is unknown", "Use End, End.M.GTP6.D, End.M.GTP6.D.Di, End.M.GTP6.E or End.M.GTP4.E.", NULL},
+    {"the prefix length is over 128", "An IPv6 prefix has 0 to 128 bits.", NULL},
+    {"bits past the prefix length are not 0", "Clear the bits past the length, or make the prefix longer.", "prefix"},
+    {"the hop limit is not 1 to 255", "A packet with hop limit 0 goes nowhere; 64 is usual.", NULL},
+    {"the direction is unknown", "Use downlink or uplink.", NULL},
+    {"the session type is unknown", "Use IPv4, IPv6, IPv4v6 or Ethernet; unstructured sessions are not carried.", NULL},
+    {"the policy does not exist", "Name a policy of the same table.", NULL},
+    {"Args do not start at an octet from 0 to 11", "Args take 5 octets of 16: they start at octet 11 at the latest.", NULL},
+    {"the prefix reaches into Args", "Shorten the prefix to 8 bits for each octet before Args, or let Args start later.", "prefix"},
+    {"p is over 7", "p octets, an IPv4 address and Args make an address: p is 7 at the most.", NULL},
+    {"q is over 12", "q octets and an IPv4 address make an address: q is 12 at the most.", NULL},
+    {"the prefix has more than 8p bits",
+     "The IPv4 destination stands behind p octets: shorten the prefix, or raise p at both ends.", "prefix"},
+    {"the reserved octet is not 0", "The table was made for another version of the library, or was damaged: compile it again.", NULL},
+    {"an earlier entry has the same prefix and length", "Remove one of the two: the longest match has to be one entry.", "prefix"},
+};
+
+static const struct fault_words rule_faults[] = {
+    {"the prefix length is over 32", "An IPv4 prefix has 0 to 32 bits.", NULL},
+    {"bits past the prefix length are not 0", "Clear the bits past the length, or make the prefix longer.", "prefix"},
+    {"the hop limit is not 1 to 255", "A packet with hop limit 0 goes nowhere; 64 is usual.", NULL},
+    {"the direction is unknown", "Use downlink or uplink.", NULL},
+    {"the session type is unknown", "Use IPv4, IPv6, IPv4v6 or Ethernet; unstructured sessions are not carried.", NULL},
+    {"p is over 7", "p octets, an IPv4 address and Args make a SID: p is 7 at the most.", NULL},
+    {"q is over 12", "q octets and an IPv4 address make a source address: q is 12 at the most.", NULL},
+    {"bits past 8p of the SID prefix are not 0", "Clear the bits past the first p octets, or raise p at both ends.", "sid-prefix"},
+    {"bits past 8q of the source prefix are not 0", "Clear the bits past the first q octets, or raise q at both ends.", "source-prefix"},
+    {"more than 7 waypoints", "Leave waypoints out: a rule passes 7 at the most.", NULL},
+    {"the reserved octet is not 0", "The table was made for another version of the library, or was damaged: compile it again.", NULL},
+    {"an earlier rule has the same prefix and length", "Remove one of the two: the longest match has to be one rule.", "prefix"},
+};
+
+static const struct fault_words policy_faults[] = {
+    {"not 1 to 8 SIDs", "A policy has a last SID and up to 7 waypoints before it.", NULL},
+    {"Args do not start at an octet from 0 to 11", "Args take 5 octets of 16: they start at octet 11 at the latest.", NULL},
+    {"the reserved octet is not 0", "The table was made for another version of the library, or was damaged: compile it again.", NULL},
+};
+
+static const struct {
+    const char *name;
+    const struct fault_words *faults;
+    size_t count;
+} records[RECORDS] = {
+    [RECORD_HEADER] = {"header", header_faults, sizeof header_faults / sizeof header_faults[0]},
+    [RECORD_ENTRY] = {"entry", entry_faults, sizeof entry_faults / sizeof entry_faults[0]},
+    [RECORD_RULE] = {"rule", rule_faults, sizeof rule_faults / sizeof rule_faults[0]},
+    [RECORD_POLICY] = {"policy", policy_faults, sizeof policy_faults / sizeof policy_faults[0]},
+};
+
+const struct fault_words *fault_words(unsigned int record, unsigned int condition)
+{
+    if (record >= RECORDS || condition == 0 || condition > records[record].count)
+        return NULL;
+    return &records[record].faults[condition - 1];
+}
+
+const char *record_name(unsigned int record)
+{
+    return record < RECORDS && records[record].name != NULL ? records[record].name : "record";
+}
