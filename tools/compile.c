@@ -54,15 +54,15 @@ static const struct argp argp = {option_list, parse, "DESCRIPTION -o TABLE", hel
 static struct record_place place_of(const struct description *description, const struct text_source *source, const struct built *built,
                                     unsigned int record, unsigned int index)
 {
-    if (record == RECORD_ENTRY) {
+    if (record == KAWSARPA_RECORD_ENTRY) {
         const unsigned int from = built->entry_from[index];
         return (struct record_place){source, "entries", "entry", from, description->entries[from].name};
     }
-    if (record == RECORD_RULE) {
+    if (record == KAWSARPA_RECORD_RULE) {
         const unsigned int from = built->rule_from[index];
         return (struct record_place){source, "rules", "rule", from, description->rules[from].name};
     }
-    if (record == RECORD_POLICY)
+    if (record == KAWSARPA_RECORD_POLICY)
         return (struct record_place){source, "policies", "policy", index, description->policies[index].name};
     return (struct record_place){source, NULL, NULL, 0, NULL};
 }

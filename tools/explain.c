@@ -104,7 +104,7 @@ static int explain_fault(const char *text, unsigned long long fault)
         say_error("%s is no fault of a table: a fault is condition + 256 * record + 65536 * number, as `kawsarpa check' prints it", text);
         return EXIT_INPUT;
     }
-    if (record == RECORD_HEADER)
+    if (record == KAWSARPA_RECORD_HEADER)
         printf("%llu: the header, condition %u\n", fault, condition);
     else
         printf("%llu: %s %u (from 1), condition %u\n", fault, record_name(record), index + 1, condition);

@@ -66,7 +66,7 @@ static bool same_rule_prefix(const struct kawsarpa_rule *a, const struct kawsarp
 unsigned int table_earlier(const struct table_records *records, unsigned int record, unsigned int index)
 {
     for (unsigned int i = 0; i < index; i++)
-        if (record == RECORD_ENTRY ? same_entry_prefix(&records->entries[i], &records->entries[index])
+        if (record == KAWSARPA_RECORD_ENTRY ? same_entry_prefix(&records->entries[i], &records->entries[index])
                                    : same_rule_prefix(&records->rules[i], &records->rules[index]))
             return i;
     return index;
@@ -76,10 +76,10 @@ bool fault_is_same_prefix(uint64_t fault)
 {
     const unsigned int condition = kawsarpa_fault_condition(fault);
     switch (kawsarpa_fault_record(fault)) {
-    case RECORD_ENTRY:
-        return condition == ENTRY_SAME_PREFIX;
-    case RECORD_RULE:
-        return condition == RULE_SAME_PREFIX;
+    case KAWSARPA_RECORD_ENTRY:
+        return condition == KAWSARPA_FAULT_ENTRY_REPEATED;
+    case KAWSARPA_RECORD_RULE:
+        return condition == KAWSARPA_FAULT_RULE_REPEATED;
     default:
         return false;
     }
@@ -105,9 +105,9 @@ static void say_record_fault(const char *name, const struct octets *table, uint6
     const unsigned int index = kawsarpa_fault_index(fault);
     char prefix[PREFIX_ROOM] = "";
     char earlier[32] = "";
-    if (record == RECORD_ENTRY)
+    if (record == KAWSARPA_RECORD_ENTRY)
         entry_prefix_text(&records.entries[index], prefix);
-    else if (record == RECORD_RULE)
+    else if (record == KAWSARPA_RECORD_RULE)
         rule_prefix_text(&records.rules[index], prefix);
     if (fault_is_same_prefix(fault))
         snprintf(earlier, sizeof earlier, " (%s %u)", record_name(record), table_earlier(&records, record, index) + 1);
@@ -119,7 +119,7 @@ void table_say_fault(const char *name, const struct octets *table, uint64_t faul
     const char *shown = file_shown_name(name, "standard input");
     const struct fault_words *words = fault_words(kawsarpa_fault_record(fault), kawsarpa_fault_condition(fault));
     const char *broken = words == NULL ? "a condition that this program does not know" : words->broken;
-    if (kawsarpa_fault_record(fault) == RECORD_HEADER)
+    if (kawsarpa_fault_record(fault) == KAWSARPA_RECORD_HEADER)
         say_header_fault(shown, table, broken);
     else
         say_record_fault(shown, table, fault, broken);

@@ -184,21 +184,21 @@ static const struct {
     const char *name;
     const struct fault_words *faults;
     size_t count;
-} records[RECORDS] = {
-    [RECORD_HEADER] = {"header", header_faults, sizeof header_faults / sizeof header_faults[0]},
-    [RECORD_ENTRY] = {"entry", entry_faults, sizeof entry_faults / sizeof entry_faults[0]},
-    [RECORD_RULE] = {"rule", rule_faults, sizeof rule_faults / sizeof rule_faults[0]},
-    [RECORD_POLICY] = {"policy", policy_faults, sizeof policy_faults / sizeof policy_faults[0]},
+} records[] = {
+    [KAWSARPA_RECORD_HEADER] = {"header", header_faults, sizeof header_faults / sizeof header_faults[0]},
+    [KAWSARPA_RECORD_ENTRY] = {"entry", entry_faults, sizeof entry_faults / sizeof entry_faults[0]},
+    [KAWSARPA_RECORD_RULE] = {"rule", rule_faults, sizeof rule_faults / sizeof rule_faults[0]},
+    [KAWSARPA_RECORD_POLICY] = {"policy", policy_faults, sizeof policy_faults / sizeof policy_faults[0]},
 };
 
 const struct fault_words *fault_words(unsigned int record, unsigned int condition)
 {
-    if (record >= RECORDS || condition == 0 || condition > records[record].count)
+    if (record >= sizeof records / sizeof records[0] || condition == 0 || condition > records[record].count)
         return NULL;
     return &records[record].faults[condition - 1];
 }
 
 const char *record_name(unsigned int record)
 {
-    return record < RECORDS && records[record].name != NULL ? records[record].name : "record";
+    return record < sizeof records / sizeof records[0] && records[record].name != NULL ? records[record].name : "record";
 }

@@ -31,10 +31,6 @@ struct answer_words {
 /* NULL for a number that is no answer. */
 const struct answer_words *answer_words(unsigned long number);
 
-/* The records of a table, as kawsarpa_fault_record numbers them, and two of their conditions. */
-enum { RECORD_HEADER = 1, RECORD_ENTRY, RECORD_RULE, RECORD_POLICY, RECORDS };
-enum { ENTRY_SAME_PREFIX = 14, RULE_SAME_PREFIX = 12 };
-
 struct fault_words {
     const char *broken; /* what is wrong with the record */
     const char *next;
