@@ -37,7 +37,7 @@ step faults 5 "$boundary" faults --seed 1 --cases 200000
 step trips 7 "$boundary" trips --seed 1 --cases 20000
 step threads 1 "$boundary" threads --seed 1 --cases 2000
 step stack 4 "$boundary" stack
-# seed 2 has every answer number among its first 8,100 cases
+# seed 2 has every answer number among its first 8,100 cases, and every condition among its first 4,000 tables
 step "cases under valgrind" 1 "${memcheck[@]}" "$boundary" cases --seed 2 --cases 10000 --threads 1
-step "faults under valgrind" 1 "${memcheck[@]}" "$boundary" faults --seed 2 --cases 20000
+step "faults under valgrind" 1 "${memcheck[@]}" "$boundary" faults --seed 2 --cases 10000
 step "trips under valgrind" 2 "${memcheck[@]}" "$boundary" trips --seed 2 --cases 200

@@ -1,6 +1,6 @@
 -- Faults of sample tables, checked by computation: the condition, then 256 times the kind of record, then 65,536 times its index.
-use mathlib.Core.List.{List, [], _∷_, _++_}
-use Prim.Native.Nat.{ℕ, _+_, _*_}
+use mathlib.Core.List.{[], _∷_, _++_}
+use Prim.Native.Nat.{_+_, _*_}
 use lib.Dec.{T, eqb}
 use Rattle.rules.specs.Octets.{window, number}
 use Rattle.rules.specs.Prefix.{clear}

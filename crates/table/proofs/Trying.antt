@@ -1,21 +1,33 @@
--- Laws of the first fault, as code looks for it: conditions tried one after the other, and records one after the other.
-use mathlib.Core.Path.{_≡_, refl, sym, _∙_}
-use mathlib.Core.Bool.{Bool, true, false, cond}
-use mathlib.Core.List.{List, [], _∷_}
+-- Laws of the first fault, as code looks for it: among conditions, among faults and among records.
+use mathlib.Core.Path.{_≡_, refl, _∙_}
+use mathlib.Core.Bool.{Bool, false, cond}
 use Prim.Native.Nat.{ℕ, zero, suc, _+_, _<_}
 use native.Mathlib.Nat.{not-suc-le-zero}
 use native.Mathlib.Numerals.{add-one}
 use native.Mathlib.Omega.{arith}
 use native.Mathlib.Decide.{ℕ-discrete}
 use lib.Dec.{eqb}
-use borrow.Author.Tests.{ne-eqb}
 use Rattle.rules.specs.Sound.{whereUsed}
-use Rattle.rules.specs.Fault.{firstBroken, told, orElse, firstFault}
+use Rattle.rules.specs.Fault.{told, orElse, firstFault}
 
--- conditions with numbers from n on, tried behind what is broken already
-abbrev pub tried : (f n : ℕ) → List Bool → ℕ
-tried f n [] = f
-tried f n (b ∷ bs) = tried (orElse f (cond b 0 n)) (suc n) bs
+-- CONDITIONS
+
+-- what a function that puts one condition before others says, with what is known of the condition and of the others
+pub behind : (n : ℕ) {b condition : Bool} {r s others : ℕ} → b ≡ condition → r ≡ cond b s n → s ≡ others → r ≡ cond condition others n
+behind n p e q = e ∙ (λ i. cond (p i) (q i) n)
+
+-- a condition that is tested as it stands, and one that is tested where a field is used
+pub itself : (condition : Bool) → condition ≡ condition
+itself condition = refl
+
+pub where-used : (used : Bool) {b condition : Bool} → b ≡ condition → whereUsed used b ≡ whereUsed used condition
+where-used used e = λ i. whereUsed used (e i)
+
+-- FAULTS
+
+pub told-none : (kind index : ℕ) → told kind index 0 ≡ 0
+unfolding told
+told-none kind index = refl
 
 pub else-zero : (g : ℕ) → orElse 0 g ≡ g
 unfolding orElse
@@ -25,35 +37,9 @@ pub else-fault : (f g : ℕ) → eqb f 0 ≡ false → orElse f g ≡ f
 unfolding orElse
 else-fault f g h = rw h refl
 
-else-suc : (f g : ℕ) → orElse (suc f) g ≡ suc f
-else-suc f g = else-fault (suc f) g (ne-eqb (suc f) 0 (λ e. omega arith))
-
-pub else-none : (f : ℕ) → orElse f 0 ≡ f
-else-none zero = else-zero 0
-else-none (suc f) = else-suc f 0
-
--- one condition more
-else-more : (f n later : ℕ) (b : Bool) → orElse (orElse f (cond b 0 (suc n))) later ≡ orElse f (cond b later (suc n))
-else-more zero n later true = rw (else-zero 0) refl
-else-more zero n later false = rw (else-zero (suc n)) (else-suc n later)
-else-more (suc f) n later b = rw (else-suc f (cond b 0 (suc n)), else-suc f later, else-suc f (cond b later (suc n))) refl
-
-tried-behind : (f n : ℕ) (bs : List Bool) → tried f (suc n) bs ≡ orElse f (firstBroken (suc n) bs)
-tried-behind f n [] = sym (else-none f)
-tried-behind f n (b ∷ bs) = tried-behind (orElse f (cond b 0 (suc n))) (suc n) bs ∙ else-more f n (firstBroken (suc (suc n)) bs) b
-
-pub tried-broken : (bs : List Bool) → tried 0 1 bs ≡ firstBroken 1 bs
-tried-broken bs = tried-behind 0 0 bs ∙ else-zero (firstBroken 1 bs)
-
--- what a function that tries one condition more says, with what is known of its arguments
-pub next : {s known r x condition : ℕ} → s ≡ known → r ≡ orElse s x → x ≡ condition → r ≡ orElse known condition
+-- what a function that puts one fault before another says, with what is known of both
+pub next : {f g known later r : ℕ} → f ≡ known → r ≡ orElse f g → g ≡ later → r ≡ orElse known later
 next p e q = e ∙ (λ i. orElse (p i) (q i))
-
-pub tested : (n : ℕ) {b condition : Bool} → b ≡ condition → cond b 0 n ≡ cond condition 0 n
-tested n e = λ i. cond (e i) 0 n
-
-pub tested-where : (used : Bool) (n : ℕ) {b condition : Bool} → b ≡ condition → cond (whereUsed used b) 0 n ≡ cond (whereUsed used condition) 0 n
-tested-where used n e = λ i. cond (whereUsed used (e i)) 0 n
 
 -- the numbers below a bound, from 0 on
 module _ (f : ℕ → ℕ) where
@@ -76,7 +62,3 @@ module _ (f : ℕ → ℕ) where
 
   pub first-done : (i n : ℕ) → firstFault f i ≡ 0 → i ≡ n → firstFault f n ≡ 0
   first-done i n a e = rw (← e) a
-
-pub told-none : (kind index : ℕ) → told kind index 0 ≡ 0
-unfolding told
-told-none kind index = refl

@@ -5,7 +5,7 @@ ghost use Rattle.rules.specs.Entry.{prefix};
 ghost use Rattle.rules.specs.Sound.{behaviourKnown, prefixClear, policyExists, prefixBeforeAddress};
 ghost use Rattle.rules.specs.Fault.{entryBroken};
 ghost use Rattle.table.specs.Results.{Lent};
-use crate::faults::or_broken;
+use crate::faults::unless;
 use crate::fields;
 use crate::records;
 
@@ -99,17 +99,21 @@ pub(crate) fn broken(e: &[u8], policies: usize) -> u8
     let uses_start = behaviour == END_M_GTP6_E;
     let uses_places = behaviour == END_M_GTP4_E;
     let bits = e[PREFIX_LENGTH];
-    let b = or_broken(0, behaviour_known(e), 1);
-    let b = or_broken(b, bits <= 128, 2);
-    let b = or_broken(b, prefix_clear(e), 3);
-    let b = or_broken(b, 1 <= e[HOP_LIMIT], 4);
-    let b = or_broken(b, !uses_session | fields::direction_known(e[DIRECTION]), 5);
-    let b = or_broken(b, !uses_session | fields::session_known(e[SESSION]), 6);
-    let b = or_broken(b, policy_exists(e, policies), 7);
-    let b = or_broken(b, !uses_start | fields::start_within(e[START]), 8);
-    let b = or_broken(b, !uses_start | (bits <= e[START]), 9);
-    let b = or_broken(b, !uses_places | (e[P] <= fields::P_MOST), 10);
-    let b = or_broken(b, !uses_places | (e[Q] <= fields::Q_MOST), 11);
-    let b = or_broken(b, !uses_places | prefix_before_address(e), 12);
-    or_broken(b, e[RESERVED] == 0, 13)
+    let from_13 = unless(e[RESERVED] == 0, 13, 0);
+    let from_12 = unless(!uses_places | prefix_before_address(e), 12, from_13);
+    let from_11 = unless(!uses_places | (e[Q] <= fields::Q_MOST), 11, from_12);
+    let from_10 = unless(!uses_places | (e[P] <= fields::P_MOST), 10, from_11);
+    let from_9 = unless(!uses_start | (bits <= e[START]), 9, from_10);
+    let from_8 = unless(!uses_start | fields::start_within(e[START]), 8, from_9);
+    let from_7 = unless(policy_exists(e, policies), 7, from_8);
+    let from_6 = unless(!uses_session | fields::session_known(e[SESSION]), 6, from_7);
+    let from_5 = unless(
+        !uses_session | fields::direction_known(e[DIRECTION]),
+        5,
+        from_6,
+    );
+    let from_4 = unless(1 <= e[HOP_LIMIT], 4, from_5);
+    let from_3 = unless(prefix_clear(e), 3, from_4);
+    let from_2 = unless(bits <= 128, 2, from_3);
+    unless(behaviour_known(e), 1, from_2)
 }

@@ -32,15 +32,12 @@ pub const RULE: u8 = 3;
 
 const POLICY: u8 = 4;
 
-// What is broken already, or else this condition by its number.
-pub(crate) fn or_broken(earlier: u8, holds: bool, number: u8) -> u8
-    ensures { λ r. ⌜ r ≡ orElse earlier (cond holds 0 number) ⌝ }
+// A condition's number where it does not hold, and else what is broken behind it. So a record's conditions are put together from the
+// last to the first.
+pub(crate) fn unless(holds: bool, number: u8, behind: u8) -> u8
+    ensures { λ r. ⌜ r ≡ cond holds behind number ⌝ }
 {
-    if (earlier == 0) & !holds {
-        number
-    } else {
-        earlier
-    }
+    if holds { behind } else { number }
 }
 
 // A broken condition with the kind and the index of its record.
@@ -63,11 +60,11 @@ fn or_else(first: u64, second: u64) -> u64
 fn header_conditions(format: u8, entries: usize, rules: usize, policies: usize, agrees: bool) -> u8
     ensures { λ r. ⌜ r ≡ firstBroken 1 (eqb format 1 ∷ leb entries 64 ∷ leb rules 16 ∷ leb policies 16 ∷ agrees ∷ []) ⌝ }
 {
-    let b = or_broken(0, format == FORMAT, 1);
-    let b = or_broken(b, entries <= ENTRY_LIMIT, 2);
-    let b = or_broken(b, rules <= RULE_LIMIT, 3);
-    let b = or_broken(b, policies <= POLICY_LIMIT, 4);
-    or_broken(b, agrees, 5)
+    let from_5 = unless(agrees, 5, 0);
+    let from_4 = unless(policies <= POLICY_LIMIT, 4, from_5);
+    let from_3 = unless(rules <= RULE_LIMIT, 3, from_4);
+    let from_2 = unless(entries <= ENTRY_LIMIT, 2, from_3);
+    unless(format == FORMAT, 1, from_2)
 }
 
 fn count_or_0(table: &[u8], at: usize) -> usize

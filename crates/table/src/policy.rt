@@ -2,7 +2,7 @@
 ghost use mathlib.Core.Path.{_≡_};
 ghost use lib.ListN.{length};
 ghost use Rattle.rules.specs.Fault.{policyBroken};
-use crate::faults::or_broken;
+use crate::faults::unless;
 use crate::fields;
 
 pub const SID_COUNT: usize = 0;
@@ -18,7 +18,7 @@ pub(crate) fn broken(y: &[u8]) -> u8
     requires { ⌜ length (now y) ≡ 288 ⌝ }
     ensures { λ r. ⌜ r ≡ policyBroken (now (y .entry)) ⌝ }
 {
-    let b = or_broken(0, (1 <= y[SID_COUNT]) & (y[SID_COUNT] <= 8), 1);
-    let b = or_broken(b, fields::start_within(y[START]), 2);
-    or_broken(b, y[RESERVED] == 0, 3)
+    let from_3 = unless(y[RESERVED] == 0, 3, 0);
+    let from_2 = unless(fields::start_within(y[START]), 2, from_3);
+    unless((1 <= y[SID_COUNT]) & (y[SID_COUNT] <= 8), 1, from_2)
 }

@@ -5,7 +5,7 @@ ghost use Rattle.rules.specs.Rule.{prefix};
 ghost use Rattle.rules.specs.Sound.{rulePrefixClear, sidPrefixClear, sourcePrefixClear};
 ghost use Rattle.rules.specs.Fault.{ruleBroken};
 ghost use Rattle.table.specs.Results.{Lent};
-use crate::faults::or_broken;
+use crate::faults::unless;
 use crate::fields;
 use crate::records;
 
@@ -72,15 +72,15 @@ pub(crate) fn broken(r: &[u8]) -> u8
     requires { ⌜ length (now r) ≡ 160 ⌝ }
     ensures { λ b. ⌜ b ≡ ruleBroken (now (r .entry)) ⌝ }
 {
-    let b = or_broken(0, r[PREFIX_LENGTH] <= 32, 1);
-    let b = or_broken(b, prefix_clear(r), 2);
-    let b = or_broken(b, 1 <= r[HOP_LIMIT], 3);
-    let b = or_broken(b, fields::direction_known(r[DIRECTION]), 4);
-    let b = or_broken(b, fields::session_known(r[SESSION]), 5);
-    let b = or_broken(b, r[P] <= fields::P_MOST, 6);
-    let b = or_broken(b, r[Q] <= fields::Q_MOST, 7);
-    let b = or_broken(b, sid_prefix_clear(r), 8);
-    let b = or_broken(b, source_prefix_clear(r), 9);
-    let b = or_broken(b, r[WAYPOINT_COUNT] <= 7, 10);
-    or_broken(b, r[RESERVED] == 0, 11)
+    let from_11 = unless(r[RESERVED] == 0, 11, 0);
+    let from_10 = unless(r[WAYPOINT_COUNT] <= 7, 10, from_11);
+    let from_9 = unless(source_prefix_clear(r), 9, from_10);
+    let from_8 = unless(sid_prefix_clear(r), 8, from_9);
+    let from_7 = unless(r[Q] <= fields::Q_MOST, 7, from_8);
+    let from_6 = unless(r[P] <= fields::P_MOST, 6, from_7);
+    let from_5 = unless(fields::session_known(r[SESSION]), 5, from_6);
+    let from_4 = unless(fields::direction_known(r[DIRECTION]), 4, from_5);
+    let from_3 = unless(1 <= r[HOP_LIMIT], 3, from_4);
+    let from_2 = unless(prefix_clear(r), 2, from_3);
+    unless(r[PREFIX_LENGTH] <= 32, 1, from_2)
 }

@@ -25,7 +25,8 @@ use std::time::{Duration, Instant, SystemTime, UNIX_EPOCH};
 
 const ABOUT: &str =
     "boundary - the library across its C boundary, judged by the second program\n\nusage:\n";
-const STATUS: &str = "exit status: 0 all well, 1 a difference, a gap or a fault, 2 wrong usage\n";
+const STATUS: &str =
+    "exit status: 0 all well, 1 a difference, a gap or a call that crashes, 2 wrong usage\n";
 
 /// Each command with its options and its help.
 const COMMANDS: [(&str, &[&str], &str); 7] = [

@@ -1,10 +1,11 @@
-use mathlib.Core.Path.{refl, _∙_}
+use mathlib.Core.Path.{refl}
 use mathlib.Core.List.{List}
 use Prim.Native.Nat.{ℕ}
 use native.Mathlib.Omega.{arith}
-use Rattle.rules.specs.Sound.{entryConditions, usesSession, usesStart, usesPlaces}
+use Rattle.rules.specs.Entry as Entry
+use Rattle.rules.specs.Sound.{hopLimitWithin, pWithin, prefixBeforeArgs, prefixLengthWithin, qWithin, reservedClear, usesPlaces, usesSession, usesStart, whereUsed}
 use Rattle.rules.specs.Fault.{entryBroken}
-use Rattle.table.proofs.Trying.{next, tested, tested-where, tried-broken}
+use Rattle.table.proofs.Trying.{behind, itself, where-used}
 use borrow.Author.Needs.{needs}
 use Rattle.table.proofs.entry.broken.Statement.{statement}
 use Rattle.table.proofs.entry.broken.Tie as tie
@@ -12,35 +13,32 @@ use Rattle.table.proofs.entry.broken.Tie as tie
 returns : tie.Need-returns
 unfolding entryBroken
 returns c =
-    let c₁₂ = c .before .before in
-    let c₁₁ = c₁₂ .before .before in
-    let c₁₀ = c₁₁ .before .before in
-    let c₉ = c₁₀ .before .before in
-    let c₈ = c₉ .before .before in
-    let c₇ = c₈ .before .before .before in
-    let c₆ = c₇ .before .before in
-    let c₅ = c₆ .before .before .before in
-    let c₄ = c₅ .before .before .before in
-    let c₃ = c₄ .before .before in
-    let c₂ = c₃ .before .before in
-    let c₁ = c₂ .before in
-    let c₀ = c₁ .before .before .before .before .before in
-    let e : List ℕ = c₀ .args .e .now in
-    (next (next (next (next (next (next (next (next (next (next (next (next (next refl
-    (c₁ .or-broken .ensures) (tested 1 (c₁ .before .behaviour-known .ensures)))
-    (c₂ .or-broken2 .ensures) refl)
-    (c₃ .or-broken3 .ensures) (tested 3 (c₃ .before .prefix-clear .ensures)))
-    (c₄ .or-broken4 .ensures) refl)
-    (c₅ .or-broken5 .ensures) (tested-where (usesSession e) 5 (c₅ .before .direction-known .ensures)))
-    (c₆ .or-broken6 .ensures) (tested-where (usesSession e) 6 (c₆ .before .session-known .ensures)))
-    (c₇ .or-broken7 .ensures) (tested 7 (c₇ .before .policy-exists .ensures)))
-    (c₈ .or-broken8 .ensures) (tested-where (usesStart e) 8 (c₈ .before .start-within .ensures)))
-    (c₉ .or-broken9 .ensures) refl)
-    (c₁₀ .or-broken10 .ensures) refl)
-    (c₁₁ .or-broken11 .ensures) refl)
-    (c₁₂ .or-broken12 .ensures) (tested-where (usesPlaces e) 12 (c₁₂ .before .prefix-before-address .ensures)))
-    (c .or-broken13 .ensures) refl)
-    ∙ tried-broken (entryConditions (c₀ .args .policies) e)
+    let c₂ = c .before .before in
+    let c₃ = c₂ .before in
+    let c₄ = c₃ .before .before in
+    let c₅ = c₄ .before .before in
+    let c₆ = c₅ .before .before .before in
+    let c₇ = c₆ .before .before .before in
+    let c₈ = c₇ .before .before in
+    let c₉ = c₈ .before .before .before in
+    let c₁₀ = c₉ .before .before in
+    let c₁₁ = c₁₀ .before .before in
+    let c₁₂ = c₁₁ .before .before in
+    let c₁₃ = c₁₂ .before .before in
+    let e : List ℕ = c₁₃ .before .before .before .before .before .args .e .now in
+    behind 1 (c .before .behaviour-known .ensures) (c .unless13 .ensures)
+    (behind 2 (itself (prefixLengthWithin 128 (Entry.prefixLength e))) (c₂ .unless12 .ensures)
+    (behind 3 (c₃ .before .prefix-clear .ensures) (c₃ .unless11 .ensures)
+    (behind 4 (itself (hopLimitWithin (Entry.hopLimit e))) (c₄ .unless10 .ensures)
+    (behind 5 (where-used (usesSession e) (c₅ .before .direction-known .ensures)) (c₅ .unless9 .ensures)
+    (behind 6 (where-used (usesSession e) (c₆ .before .session-known .ensures)) (c₆ .unless8 .ensures)
+    (behind 7 (c₇ .before .policy-exists .ensures) (c₇ .unless7 .ensures)
+    (behind 8 (where-used (usesStart e) (c₈ .before .start-within .ensures)) (c₈ .unless6 .ensures)
+    (behind 9 (itself (whereUsed (usesStart e) (prefixBeforeArgs e))) (c₉ .unless5 .ensures)
+    (behind 10 (itself (whereUsed (usesPlaces e) (pWithin (Entry.p e)))) (c₁₀ .unless4 .ensures)
+    (behind 11 (itself (whereUsed (usesPlaces e) (qWithin (Entry.q e)))) (c₁₁ .unless3 .ensures)
+    (behind 12 (where-used (usesPlaces e) (c₁₂ .before .prefix-before-address .ensures)) (c₁₂ .unless2 .ensures)
+    (behind 13 (itself (reservedClear (Entry.reserved e))) (c₁₃ .unless .ensures) refl))))))))))))
 
 pub broken-spec : {M : Type 1} → statement M
 broken-spec =
@@ -48,8 +46,7 @@ broken-spec =
     (tie.spec
     (λ c. search needs)
     (λ c. search needs)
-    (λ c κs. search needs)
-    (λ c κs. search needs)
+    (λ c. search needs)
     (λ c κs. search needs)
     (λ c κs. search needs)
     (λ c κs. search needs)
@@ -57,23 +54,24 @@ broken-spec =
     (λ c κs. search needs)
     (λ c. search needs)
     (λ c κs. search needs)
+    (λ c. search needs)
+    (λ c κs. search needs)
+    (λ c. search needs)
+    (λ c κs. search needs)
+    (λ c κs. search needs)
+    (λ c κs. search needs)
+    (λ c κs. search needs)
+    (λ c. search needs)
+    (λ c κs. search needs)
+    (λ c κs. search needs)
+    (λ c. search needs)
+    (λ c κs. search needs)
     (λ c κs. search needs)
     (λ c. search needs)
     (λ c κs. search needs)
     (λ c κs. search needs)
     (λ c κs. search needs)
     (λ c κs. search needs)
-    (λ c. search needs)
-    (λ c κs. search needs)
-    (λ c κs. search needs)
-    (λ c. search needs)
-    (λ c κs. search needs)
-    (λ c. search needs)
-    (λ c κs. search needs)
-    (λ c. omega (arith, c .before .before .before .before .before .before .before .before .before .before .before .before .before .before .before .before .before .before .before .before .before .before .before .before .before .before .pre))
-    (λ c κs. search needs)
-    (λ c κs. omega (arith, c .before .before .before .before .before .before .before .before .before .before .before .before .before .before .before .before .before .before .before .before .before .before .before .before .before .before .before .pre))
-    (λ c κs. search needs)
-    (λ c. omega (arith, c .before .before .before .before .before .before .before .before .before .before .before .before .before .before .before .before .before .before .before .before .before .before .before .before .before .before .before .before .before .before .pre))
+    (λ c κs. omega (arith, c .before .before .before .before .before .before .before .before .before .before .before .before .before .before .before .before .before .before .before .before .before .before .before .before .before .before .before .before .before .pre))
     (λ c κs. search needs)
     returns)
