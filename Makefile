@@ -48,8 +48,10 @@ endef
 tools:
 	$(call install,gcc:gcc g++:g++ nm:binutils cargo:cargo valgrind:valgrind $(tool_needs))
 
+# the layout of the sources, and that what the documents list is there
 format:
 	rt fmt --check
+	tests/docs.sh
 
 # the second program: its own tests, and the worked packets of document 01
 second:
