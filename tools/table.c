@@ -94,7 +94,7 @@ static void say_header_fault(const char *name, const struct octets *table, const
     }
     const struct table_records records = table_records(table);
     const size_t size = kawsarpa_table_size((uint16_t)records.entry_count, (uint16_t)records.rule_count, (uint16_t)records.policy_count);
-    say_error_at(name, 0, "not sound: %s (format %u, %u entries, %u rules and %u policies take %zu octets; there are %zu)", broken,
+    say_error_at(name, 0, "not sound: %s (format %u; entries %u, rules %u, policies %u, which take %zu octets; there are %zu)", broken,
                  table->at[0], records.entry_count, records.rule_count, records.policy_count, size, table->count);
 }
 
