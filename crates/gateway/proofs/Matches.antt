@@ -1,36 +1,32 @@
 -- What a call knows of the record that it found, and the call from there.
 use mathlib.Core.Path.{_≡_, refl, sym, ap, _∙_}
-use mathlib.Core.Bool.{Bool, true, false, not, cond, _||_, false≢true}
-use mathlib.Core.List.{List, [], _∷_}
-use Prim.Native.Nat.{ℕ, _+_, _*_, _≤_, _<_}
+use mathlib.Core.Bool.{Bool, true, false}
+use mathlib.Core.List.{List}
+use Prim.Native.Nat.{ℕ, _<_}
 use native.Mathlib.Omega.{arith}
-use lib.Dec.{eqb, ltb}
+use lib.Dec.{eqb}
 use lib.ListN.{length}
-use borrow.Author.Tests.{eqb-true, eq-eqb, ne-eqb, not-false, ltb-false, eqb-false}
-use Rattle.rules.specs.Octets.{octet, window}
+use borrow.Author.Tests.{eqb-true}
+use Rattle.rules.specs.Octets.{window}
 use Rattle.rules.specs.Assigned.{end, endMGtp6D, endMGtp6DDi, endMGtp6E, endMGtp4E, downlink, uplink}
-use Rattle.rules.specs.Table.{policies, entryAt, ruleAt, policyAt}
+use Rattle.rules.specs.Table.{policies, policyAt}
 use Rattle.rules.specs.Entry as Entry
 use Rattle.rules.specs.Rule as Rule
 use Rattle.rules.specs.Ipv6 as Ipv6
 use Rattle.rules.specs.Ipv4 as Ipv4
 use Rattle.rules.specs.Match.{matchEntry, matchRule}
-use Rattle.rules.specs.Sound.{directionKnown, behaviourKnown, entrySound, sound, entryLimit}
-use Rattle.rules.specs.Answer.{Row, row, plain, any, differs, verdict, Outcome, Refused, unless, settle}
+use Rattle.rules.specs.Sound.{directionKnown, behaviourKnown, entrySound, sound}
+use Rattle.rules.specs.Answer.{row, plain, any, verdict, Refused, settle}
 use Rattle.rules.specs.Header.{header, headerOf, malformed}
-use Rattle.rules.specs.D4.{header4, header4Of, malformed4, badHeader4, atD4}
+use Rattle.rules.specs.D4.{header4, header4Of, malformed4, badHeader4}
 use Rattle.rules.specs.Waypoint.{atWaypoint}
 use Rattle.rules.specs.D.{atD}
 use Rattle.rules.specs.Di.{atDi}
 use Rattle.rules.specs.E6.{atE6}
 use Rattle.rules.specs.E4.{atE4}
-use Rattle.rules.specs.Calls.{unsoundRow, atEntry, atFoundEntry, atFoundRule, frontRows6, frontRows4, decide6, decide4, translate6, translate4}
+use Rattle.rules.specs.Calls.{atEntry, atFoundEntry, atFoundRule, frontRows6, frontRows4, decide6, decide4, translate6, translate4}
 use Rattle.rules.specs.declared.Header.{Header}
 use Rattle.rules.specs.declared.Header4.{Header4}
-use Rattle.rules.specs.declared.Found.{Found}
-use Rattle.rules.specs.declared.Found.the-variants.{At, Nothing}
-use Rattle.rules.specs.declared.Verdict.{Verdict}
-use Rattle.rules.specs.declared.Verdict.the-variants.{Pass, Refuse}
 use Rattle.rules.proofs.Conditions.{conjunct}
 use Rattle.rules.proofs.Rows.{Clear, any-clear, read}
 use Rattle.gateway.specs.Sight.{Sight, Sight4}

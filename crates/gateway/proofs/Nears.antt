@@ -1,14 +1,13 @@
 -- The calls at D and Di, from their verdicts; what they write.
 use mathlib.Core.Path.{_≡_, refl, sym, ap, _∙_}
-use mathlib.Core.Bool.{Bool, true, false, not, cond, _&&_}
+use mathlib.Core.Bool.{true}
 use mathlib.Core.List.{List, [], _∷_, _++_}
-use Prim.Native.Nat.{ℕ, zero, suc, _+_, _-_, _*_, _/_, _%_, _≤_, _<_}
+use Prim.Native.Nat.{ℕ, _+_, _-_, _*_, _≤_, _<_}
 use native.Mathlib.Nat.{add-zero}
 use native.Mathlib.Omega.{arith}
-use lib.Dec.{eqb, ltb}
 use lib.ListN.{length, drop, getD, length-append, length-drop}
 use lib.Seq.{drop-drop, getD-drop}
-use borrow.Author.Tests.{not-false, ltb-false}
+use borrow.Author.Tests.{not-false}
 use Rattle.rules.specs.Octets.{octet, window, splice}
 use Rattle.rules.specs.Entry as Entry
 use Rattle.rules.specs.Policy as Policy
@@ -18,21 +17,21 @@ use Rattle.rules.specs.Srh.{srh}
 use Rattle.rules.specs.Gtpu as Gtpu
 use Rattle.rules.specs.Table.{addressesAt}
 use Rattle.rules.specs.Args.{Args, withArgs}
-use Rattle.rules.specs.Answer.{Row, given, verdict, Outcome, Sent, Refused, unless, settle, overlay}
+use Rattle.rules.specs.Answer.{given, verdict, Sent, Refused, settle}
 use Rattle.rules.specs.Header.{header}
-use Rattle.rules.specs.Datagram.{datagram, messageRows, gPduRows, innerRows, extended, badExtensions}
+use Rattle.rules.specs.Datagram.{datagram, messageRows, gPduRows, innerRows, extended}
 use Rattle.rules.specs.Session.{innerProtocol}
 use Rattle.rules.specs.Srv6.{srv6, srv6Payload}
-use Rattle.rules.specs.Carried.{Carried, carriedBy, carried6, datagramIn6}
+use Rattle.rules.specs.Carried.{carriedBy, carried6, datagramIn6}
 use Rattle.rules.specs.Gtp6D.{gtp6DPacket, gtp6Rows, gtp6DRows, atGtp6D}
-use Rattle.rules.specs.D.{lastWithArgs, dPath, dPacket, atD}
-use Rattle.rules.specs.Di.{diPath, diPacket, atDi}
+use Rattle.rules.specs.D.{lastWithArgs, dPath, dPacket}
+use Rattle.rules.specs.Di.{diPath, diPacket}
 use Rattle.rules.specs.declared.Header.{Header}
 use Rattle.rules.specs.declared.Datagram.{Datagram}
 use Rattle.rules.specs.declared.Refusal.{Refusal}
 use Rattle.rules.specs.declared.Verdict.{Verdict}
 use Rattle.rules.specs.declared.Verdict.the-variants.{Pass, Refuse}
-use Rattle.rules.proofs.Rows.{Clear, None, pass-none, read}
+use Rattle.rules.proofs.Rows.{Clear, pass-none, read}
 use Rattle.rules.proofs.Windows.{window-length}
 use Rattle.rules.proofs.Reading.{Addresses, addresses-append, ipv6-length, length-segments}
 use Rattle.rules.proofs.Paths.{addressesAt-addresses, addressesAt-length}

@@ -3,16 +3,14 @@ use mathlib.Core.Path.{_≡_, refl, sym, ap, _∙_}
 use mathlib.Core.List.{List, [], _∷_, _++_, append-nil, append-assoc}
 use Prim.Native.Nat.{ℕ, zero, suc, _+_, _-_, _*_, _≤_, _<_}
 use native.Mathlib.Omega.{arith}
-use lib.ListN.{length, getD, length-append}
-use Rattle.rules.specs.Octets.{octet, window, splice}
+use lib.ListN.{length, getD}
+use Rattle.rules.specs.Octets.{window, splice}
 use Rattle.rules.specs.Assigned.{routingHeader, segmentRouting}
 use Rattle.rules.specs.Ipv6.{ipv6}
-use Rattle.rules.specs.Srh.{segments, srh}
-use Rattle.rules.specs.Srv6.{srv6, srv6Payload}
+use Rattle.rules.specs.Srh.{segments}
+use Rattle.rules.specs.Srv6.{srv6}
 use Rattle.rules.specs.Table.{addressesAt}
-use Rattle.rules.proofs.Windows.{window-length}
 use Rattle.rules.proofs.Reading.{segments-append}
-use Rattle.rules.proofs.Paths.{addressesAt-length}
 use Rattle.octets.specs.Run.{Run}
 use Rattle.octets.proofs.Laws.{next, run-as}
 use Rattle.gateway.specs.Heads.{pathFront, pathHead}

@@ -1,28 +1,27 @@
 -- The call at D4, from its verdict; what it builds and writes.
 use mathlib.Core.Path.{_≡_, refl, sym, ap, _∙_}
-use mathlib.Core.Bool.{Bool, true, false, not, cond, _&&_}
-use mathlib.Core.List.{List, [], _∷_, _++_, append-assoc, append-nil}
-use Prim.Native.Nat.{ℕ, zero, suc, _+_, _-_, _*_, _/_, _%_, _≤_, _<_}
+use mathlib.Core.Bool.{true, cond}
+use mathlib.Core.List.{List, [], _∷_, _++_, append-assoc}
+use Prim.Native.Nat.{ℕ, zero, suc, _+_, _-_, _*_, _≤_}
 use native.Mathlib.Nat.{add-zero, zero-add}
 use native.Mathlib.Omega.{arith}
-use lib.Dec.{eqb, ltb}
-use lib.ListN.{length, take, drop, getD, replicate, length-append, length-drop, length-replicate}
-use lib.Seq.{drop-drop, getD-drop, drop-nil, take-take, length-take-le}
-use borrow.Author.Tests.{not-false, ltb-false, eq-eqb, ne-eqb}
+use lib.Dec.{eqb}
+use lib.ListN.{length, take, drop, getD, replicate, length-append, length-drop}
+use lib.Seq.{drop-drop, getD-drop, take-take, length-take-le}
+use borrow.Author.Tests.{not-false, ne-eqb}
 use Rattle.rules.specs.Octets.{octet, window, splice}
 use Rattle.rules.specs.Rule as Rule
 use Rattle.rules.specs.Ipv4 as Ipv4
 use Rattle.rules.specs.Gtpu as Gtpu
 use Rattle.rules.specs.Table.{addressesAt}
 use Rattle.rules.specs.Args.{Args, withArgs}
-use Rattle.rules.specs.Assigned.{routingHeader}
 use Rattle.rules.specs.Ipv6.{ipv6}
 use Rattle.rules.specs.Srh.{segments}
-use Rattle.rules.specs.Answer.{Row, given, verdict, Outcome, Sent, Refused, unless, settle, overlay}
+use Rattle.rules.specs.Answer.{given, verdict, Sent, Refused, settle}
 use Rattle.rules.specs.Datagram.{datagram, messageRows, gPduRows, innerRows, extended}
 use Rattle.rules.specs.Session.{innerProtocol}
 use Rattle.rules.specs.Srv6.{srv6, pastWaypoints, pastWaypointsPayload}
-use Rattle.rules.specs.Carried.{Carried, carriedBy, carried4, datagramIn4}
+use Rattle.rules.specs.Carried.{carriedBy, carried4, datagramIn4}
 use Rattle.rules.specs.E4.{startBehind}
 use Rattle.rules.specs.D4.{header4, addressBehind, d4Sid, d4Source, d4Packet, gtp4Rows, d4Rows, atD4}
 use Rattle.rules.specs.declared.Header4.{Header4}

@@ -1,13 +1,12 @@
 -- What a call has to show of its answer and its buffer, from the verdict and the room.
 use mathlib.Core.Path.{_≡_, refl, sym, ap, _∙_}
-use mathlib.Core.Bool.{Bool, true, false, cond}
+use mathlib.Core.Bool.{true, false}
 use mathlib.Core.List.{List, [], _∷_, _++_}
 use Prim.Native.Nat.{ℕ, _≤_, _<_}
 use lib.ListN.{length}
 use lib.Dec.{ltb}
 use borrow.Author.Tests.{lt-ltb, le-ltb}
-use Rattle.rules.specs.Octets.{splice}
-use Rattle.rules.specs.Answer.{Row, plain, any, roomRow, verdict, Outcome, Sent, Refused, after, unless, settle, overlay, packed, packedFields}
+use Rattle.rules.specs.Answer.{Row, plain, any, verdict, Outcome, Sent, Refused, after, unless, settle, overlay, packed, packedFields}
 use Rattle.rules.specs.declared.Refusal.{Refusal}
 use Rattle.rules.specs.declared.Verdict.{Verdict}
 use Rattle.rules.specs.declared.Verdict.the-variants.{Pass, Refuse}

@@ -1,13 +1,12 @@
 -- The calls at E6 and E4, from their verdicts; what they write, put together from its head and the inner packet.
 use mathlib.Core.Path.{_≡_, refl, sym, ap, _∙_, subst}
-use mathlib.Core.Bool.{Bool, true, false, not, cond, _&&_}
+use mathlib.Core.Bool.{Bool, true, false}
 use mathlib.Core.List.{List, [], _∷_, _++_, append-nil, append-assoc}
-use Prim.Native.Nat.{ℕ, _+_, _-_, _*_, _/_, _%_, _≤_, _<_}
+use Prim.Native.Nat.{ℕ, _+_, _-_, _*_, _/_, _%_, _≤_}
 use native.Mathlib.Omega.{arith}
-use lib.Dec.{eqb, ltb}
 use lib.ListN.{length, drop, length-append, length-drop}
 use borrow.Author.Tests.{ltb-false}
-use Rattle.rules.specs.Octets.{octet, window, splice, put16}
+use Rattle.rules.specs.Octets.{window, splice, put16}
 use Rattle.rules.specs.Assigned.{udpProtocol}
 use Rattle.rules.specs.Entry as Entry
 use Rattle.rules.specs.Ipv6 as Ipv6
@@ -17,9 +16,8 @@ use Rattle.rules.specs.Srh.{segment}
 use Rattle.rules.specs.Args.{argsAt}
 use Rattle.rules.specs.Gtpu.{datagramBefore, datagramOctets}
 use Rattle.rules.specs.Checksum.{checksum}
-use Rattle.rules.specs.Answer.{Row, plain, given, any, verdict, lengthRow, Outcome, Sent, Refused, unless, settle, overlay}
+use Rattle.rules.specs.Answer.{given, verdict, lengthRow, Sent, Refused, settle, overlay}
 use Rattle.rules.specs.Header.{header, hasSrh, badChain, badSrh}
-use Rattle.rules.specs.Carried.{Carried}
 use Rattle.rules.specs.E6.{e6Carried, e6Payload, e6Packet, e6Rows, atE6}
 use Rattle.rules.specs.Ipv4.{ipv4, ipv4Front}
 use Rattle.rules.specs.E4.{startBehind, e4Carried, e4TotalLength, e4Packet, e4Rows, atE4}
@@ -28,7 +26,7 @@ use Rattle.rules.specs.declared.Refusal.{Refusal}
 use Rattle.rules.specs.declared.Verdict.{Verdict}
 use Rattle.rules.specs.declared.Verdict.the-variants.{Pass, Refuse}
 use Rattle.rules.proofs.Windows.{window-length}
-use Rattle.rules.proofs.Rows.{Clear, None, pass-none, read}
+use Rattle.rules.proofs.Rows.{Clear, pass-none, read}
 use Rattle.octets.specs.Run.{Run}
 use Rattle.octets.proofs.Laws.{next, run-as}
 use Rattle.gtpu.proofs.Laws.{datagram-whole}

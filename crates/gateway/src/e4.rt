@@ -3,7 +3,6 @@ use crate::answer::Answer;
 use crate::session;
 use table::entry;
 ghost use mathlib.Core.Path.{_≡_};
-ghost use mathlib.Core.Bool.{not};
 ghost use mathlib.Core.List.{List, [], _∷_, _++_};
 ghost use Prim.Native.Nat.{ℕ, _+_, _-_, _*_, _≤_, _<_};
 ghost use lib.Dec.{ltb};
@@ -12,20 +11,12 @@ ghost use Rattle.rules.specs.Octets.{window};
 ghost use Rattle.rules.specs.Entry as Entry;
 ghost use Rattle.rules.specs.Ipv6 as Ipv6;
 ghost use Rattle.rules.specs.Header.{header, hasSrh, badChain, beyondHeld};
-ghost use Rattle.rules.specs.Session.{accepts};
 ghost use Rattle.rules.specs.Answer.{any, differs, verdict, lengthRow, settle, Sent, overlay};
 ghost use Rattle.rules.specs.E4.{e4Carried, e4Packet, e4Rows, atE4};
 ghost use Rattle.gateway.specs.Answered.{Answered};
 ghost use Rattle.gateway.specs.Heads.{e4Head};
 ghost use Rattle.octets.specs.Run.{Run};
 ghost use Rattle.gateway.specs.Sight.{Sight};
-
-// Row 8.
-fn bad_upper(session: u8, h: rules::Header) -> bool
-    ensures { λ r. ⌜ r ≡ not (accepts session (h .upper)) ⌝ }
-{
-    !session::accepts_next(session, h.upper)
-}
 
 // Rows 5, 7, 8 and 15, for an inner packet of `size` octets.
 fn judge(e: &[u8], h: rules::Header, size: usize) -> rules::Verdict
@@ -48,7 +39,7 @@ fn judge(e: &[u8], h: rules::Header, size: usize) -> rules::Verdict
             pointer: 43,
         });
     }
-    if bad_upper(e[entry::SESSION], h) {
+    if session::bad_upper(e[entry::SESSION], h) {
         return rules::Verdict::Refuse(rules::Refusal {
             number: 8,
             icmpType: 4,

@@ -12,7 +12,6 @@ ghost use Rattle.rules.specs.Octets.{window};
 ghost use Rattle.rules.specs.Entry as Entry;
 ghost use Rattle.rules.specs.Ipv6 as Ipv6;
 ghost use Rattle.rules.specs.Header.{header, hasSrh, badChain, beyondHeld};
-ghost use Rattle.rules.specs.Session.{accepts};
 ghost use Rattle.rules.specs.Answer.{any, differs, verdict, lengthRow, settle, Sent, overlay};
 ghost use Rattle.rules.specs.E6.{e6Carried, e6Packet, e6Rows, atE6};
 ghost use Rattle.gateway.specs.Answered.{Answered};
@@ -32,13 +31,6 @@ fn bad_left(h: rules::Header) -> bool
     ensures { λ r. ⌜ r ≡ any (differs (h .segmentsLeft) 1 ∷ beyondHeld h ∷ []) ⌝ }
 {
     (h.segmentsLeft != 1) | (ip::beyond_held(h) | false)
-}
-
-// Row 8.
-fn bad_upper(session: u8, h: rules::Header) -> bool
-    ensures { λ r. ⌜ r ≡ not (accepts session (h .upper)) ⌝ }
-{
-    !session::accepts_next(session, h.upper)
 }
 
 // Rows 5, 7, 8 and 15, for an inner packet of `size` octets.
@@ -62,7 +54,7 @@ fn judge(e: &[u8], h: rules::Header, size: usize) -> rules::Verdict
             pointer: 43,
         });
     }
-    if bad_upper(e[entry::SESSION], h) {
+    if session::bad_upper(e[entry::SESSION], h) {
         return rules::Verdict::Refuse(rules::Refusal {
             number: 8,
             icmpType: 4,

@@ -6,7 +6,6 @@ use Prim.Native.Nat.{ℕ, _+_, _-_, _*_}
 use native.Mathlib.Nat.{add-zero}
 use lib.Dec.{eqb}
 use lib.ListN.{length, drop, length-drop}
-use lib.Seq.{getD-drop}
 use Rattle.rules.specs.Octets.{octet, window, put16}
 use Rattle.rules.specs.Assigned.{downlink, gPdu, pduSessionContainer}
 use Rattle.rules.specs.Answer.{Row, any, verdict}

@@ -1,11 +1,11 @@
 -- The laws of `splice`: its length, pieces one after the other, a piece within a part that is lent, and what is read from it.
-use mathlib.Core.Path.{_≡_, refl, sym, ap, _∙_, subst}
-use mathlib.Core.List.{List, [], _∷_, _++_, append-assoc, append-nil}
-use Prim.Native.Nat.{ℕ, zero, suc, _+_, _-_, _*_, _≤_, _<_}
+use mathlib.Core.Path.{_≡_, refl, sym, ap, _∙_}
+use mathlib.Core.List.{List, [], _++_, append-assoc, append-nil}
+use Prim.Native.Nat.{ℕ, _+_, _-_, _≤_, _<_}
 use native.Mathlib.Nat.{add-zero, zero-add, add-assoc, add-sub-of-le, le-refl, add-sub-cancel-left}
 use native.Mathlib.Omega.{arith}
-use lib.ListN.{length, take, drop, getD, length-append, length-drop, length-take, take-append-drop, drop-of-length-le, List·getD-append}
-use lib.Seq.{take-all, sets, sets-eq, paste, take-length, length-take-le, take-at, drop-at, drop-append-add, drop-drop, take-add, getD-append-add, getD-drop, getD-take, take-take, take-append-le, drop-append-le, take-append-add}
+use lib.ListN.{length, take, drop, getD, length-append, length-drop, take-append-drop, drop-of-length-le, List·getD-append}
+use lib.Seq.{take-all, sets, sets-eq, paste, take-length, length-take-le, take-at, drop-at, drop-append-add, drop-drop, take-add, getD-append-add, getD-drop, getD-take, take-take, take-append-le, drop-append-le}
 use Rattle.rules.specs.Octets.{splice}
 use Rattle.octets.specs.Run.{Run}
 

@@ -1,7 +1,7 @@
 -- The answer table as data: for each behaviour the refusals in the order in which their rows are tested. The numbers ascend, so that the
 -- first row that applies is the one with the smallest number.
 use mathlib.Core.Path.{_≡_, refl}
-use mathlib.Core.Bool.{Bool, true, false, _&&_}
+use mathlib.Core.Bool.{Bool, true, _&&_}
 use mathlib.Core.List.{List, [], _∷_, _++_}
 use Prim.Native.Nat.{ℕ}
 use lib.Dec.{T, ltb}
@@ -13,7 +13,7 @@ use Rattle.rules.specs.E6.{e6Rows}
 use Rattle.rules.specs.E4.{e4Rows}
 use Rattle.rules.specs.D4.{gtp4Rows, d4Rows}
 use Rattle.rules.specs.Calls.{frontRows6, frontRows4, unmatched}
-use Rattle.rules.specs.Answer.{Outcome, Refused}
+use Rattle.rules.specs.Answer.{Refused}
 use Rattle.rules.specs.declared.Refusal.{Refusal}
 use Rattle.rules.specs.declared.Header.{Header}
 use Rattle.rules.specs.declared.Header4.{Header4}

@@ -1,9 +1,9 @@
 -- D: what arrives at the policy's last SID reads back as the values that went in.
 use mathlib.Core.Path.{_≡_, refl, sym, ap, _∙_}
 use mathlib.Core.List.{List, [], _∷_, _++_}
-use Prim.Native.Nat.{ℕ, zero, suc, _+_, _-_, _*_, _≤_, _<_}
+use Prim.Native.Nat.{ℕ, _+_, _-_, _≤_}
 use native.Mathlib.Omega.{arith}
-use lib.ListN.{length, drop, getD}
+use lib.ListN.{length}
 use Rattle.rules.specs.Assigned.{endMGtp6D, routingHeader}
 use Rattle.rules.specs.Table.{entryAt}
 use Rattle.rules.specs.Entry as Entry
@@ -14,14 +14,13 @@ use Rattle.rules.specs.Srh.{srh}
 use Rattle.rules.specs.Args.{argsAt}
 use Rattle.rules.specs.Sound.{entryLimit}
 use Rattle.rules.specs.Answer.{Sent}
-use Rattle.rules.specs.Header.{header}
 use Rattle.rules.specs.Session.{innerProtocol}
 use Rattle.rules.specs.Srv6.{srv6Payload}
-use Rattle.rules.specs.Carried.{Carried, carried6}
+use Rattle.rules.specs.Carried.{carried6}
 use Rattle.rules.specs.Datagram.{innerRows}
 use Rattle.rules.specs.Gtp6D.{gtp6DPacket}
 use Rattle.rules.specs.D.{lastWithArgs, dPath, dPacket, atD}
-use Rattle.rules.specs.Trip.{Stop, call, trip}
+use Rattle.rules.specs.Trip.{Stop, call}
 use Rattle.rules.specs.Demand3.{policyOf, MatchingD, DeliversD}
 use Rattle.rules.proofs.Windows.{window-length}
 use Rattle.rules.proofs.Rows.{read}

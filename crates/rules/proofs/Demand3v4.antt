@@ -1,8 +1,8 @@
 -- Demand 3 over IPv4: D4, waypoints, E4.
-use mathlib.Core.Path.{_≡_, refl, sym, ap, _∙_, subst}
-use mathlib.Core.Bool.{Bool, true, false, cond}
+use mathlib.Core.Path.{_≡_, refl, ap, _∙_, subst}
+use mathlib.Core.Bool.{cond}
 use mathlib.Core.List.{List, [], _∷_, _++_}
-use Prim.Native.Nat.{ℕ, zero, suc, _+_, _-_, _*_, _≤_, _<_}
+use Prim.Native.Nat.{ℕ, _+_, _-_, _*_, _≤_, _<_}
 use native.Mathlib.Omega.{arith}
 use lib.Dec.{eqb}
 use lib.ListN.{length, getD, length-append}
@@ -16,7 +16,7 @@ use Rattle.rules.specs.Ipv6.{ipv6}
 use Rattle.rules.specs.Sound.{entryLimit}
 use Rattle.rules.specs.Answer.{Sent}
 use Rattle.rules.specs.Session.{innerProtocol}
-use Rattle.rules.specs.Srv6.{srv6, srv6Payload, pastWaypoints, pastWaypointsPayload}
+use Rattle.rules.specs.Srv6.{srv6Payload, pastWaypoints, pastWaypointsPayload}
 use Rattle.rules.specs.Carried.{Carried, carried4}
 use Rattle.rules.specs.Datagram.{innerRows}
 use Rattle.rules.specs.D4.{d4Sid, d4Source, d4Packet, d4Rows}

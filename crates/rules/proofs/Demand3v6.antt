@@ -1,18 +1,17 @@
 -- Demand 3 over IPv6: Di, waypoints, E6.
 use mathlib.Core.Path.{_≡_, refl, sym, ap, _∙_, subst}
-use mathlib.Core.Bool.{Bool, true, false, cond}
+use mathlib.Core.Bool.{true, cond}
 use mathlib.Core.List.{List, [], _∷_, _++_, append-assoc}
-use Prim.Native.Nat.{ℕ, zero, suc, _+_, _-_, _*_, _≤_, _<_}
+use Prim.Native.Nat.{ℕ, _+_, _-_, _≤_, _<_}
 use native.Mathlib.Omega.{arith}
 use lib.Dec.{eqb}
 use lib.ListN.{length, getD}
-use Rattle.rules.specs.Octets.{Octets, splice}
+use Rattle.rules.specs.Octets.{splice}
 use Rattle.rules.specs.Assigned.{endMGtp6DDi, endMGtp6E, downlink}
 use Rattle.rules.specs.Table.{entryAt, policyAt}
 use Rattle.rules.specs.Entry as Entry
 use Rattle.rules.specs.Policy as Policy
 use Rattle.rules.specs.Ipv6 as Ipv6
-use Rattle.rules.specs.Args.{withArgs}
 use Rattle.rules.specs.Sound.{sessionKnown, entryLimit}
 use Rattle.rules.specs.Answer.{Sent}
 use Rattle.rules.specs.Session.{innerProtocol}
@@ -28,14 +27,14 @@ use Rattle.rules.specs.Demand3.{AtEntry, AtWaypoints, Room, policyOf, Ma
 use Rattle.rules.proofs.Windows.{window-length}
 use Rattle.rules.proofs.Rows.{None, read}
 use Rattle.rules.proofs.Reading.{Addresses}
-use Rattle.rules.proofs.Waypoints.{onTheWay, Way}
+use Rattle.rules.proofs.Waypoints.{onTheWay}
 use Rattle.rules.proofs.Entries.{at-di, entry-sends, sent-entry}
-use Rattle.rules.proofs.Sids.{Fits, withArgs-length}
+use Rattle.rules.proofs.Sids.{withArgs-length}
 use Rattle.rules.proofs.FarE6.{Valid, e6-length, e6-sends}
 use Rattle.rules.proofs.NearGtp6.{Passed, sent-passed, passed-sent, passed-quiet, carried6-valid, carried6-source, carried6-destination, back-destination, back-values, back-passed}
 use Rattle.rules.proofs.Sessions.{Carries, carries}
 use Rattle.rules.proofs.Paths.{addressesAt-addresses, way-end, arrives}
-use Rattle.rules.proofs.Tables.{SoundGtp6D, SoundPolicy, SoundE6, found-di, found-e6}
+use Rattle.rules.proofs.Tables.{SoundGtp6D, found-di}
 use Rattle.rules.proofs.Trips.{trip-whole}
 use Rattle.rules.proofs.Again.{same-entry, same-waypoints, same-length}
 

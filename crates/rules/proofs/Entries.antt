@@ -1,9 +1,8 @@
 -- A call that comes to its entry.
-use mathlib.Core.Path.{_≡_, refl, sym, ap, _∙_}
-use mathlib.Core.Bool.{Bool, true, false, not, cond}
-use mathlib.Core.List.{List, [], _∷_}
+use mathlib.Core.Path.{_≡_, sym, ap, _∙_}
+use mathlib.Core.Bool.{true}
+use mathlib.Core.List.{List}
 use Prim.Native.Nat.{ℕ, _≤_}
-use lib.Dec.{eqb}
 use lib.ListN.{length}
 use Rattle.rules.specs.Assigned.{end, endMGtp6D, endMGtp6DDi, endMGtp6E, endMGtp4E}
 use Rattle.rules.specs.Table.{entryAt, policyAt}
@@ -11,7 +10,7 @@ use Rattle.rules.specs.Entry as Entry
 use Rattle.rules.specs.Ipv6 as Ipv6
 use Rattle.rules.specs.Sound.{sound}
 use Rattle.rules.specs.Match.{matchEntry}
-use Rattle.rules.specs.Answer.{Outcome, Sent, unless}
+use Rattle.rules.specs.Answer.{Sent}
 use Rattle.rules.specs.Header.{header, malformed}
 use Rattle.rules.specs.Waypoint.{atWaypoint}
 use Rattle.rules.specs.D.{atD}
@@ -22,8 +21,8 @@ use Rattle.rules.specs.Calls.{frontRows6, atEntry, atFoundEntry, decide6
 use Rattle.rules.specs.Trip.{Stop, call}
 use Rattle.rules.specs.Demand3.{AtEntry}
 use Rattle.rules.specs.declared.Found.{Found}
-use Rattle.rules.specs.declared.Found.the-variants.{At, Nothing}
-use Rattle.rules.proofs.Rows.{Clear, None, unless-none, unless-sent, settle-sent, sent-settle}
+use Rattle.rules.specs.declared.Found.the-variants.{At}
+use Rattle.rules.proofs.Rows.{Clear, unless-none, unless-sent, settle-sent, sent-settle}
 use Rattle.rules.proofs.Trips.{call-v6}
 
 module _ (t e p : List ℕ) where

@@ -1,27 +1,25 @@
 -- The call at E4: it reads the values that D4 wrote, with an SRH or without, and sends the packet made from them.
-use mathlib.Core.Path.{_≡_, refl, sym, ap, _∙_}
-use mathlib.Core.Bool.{Bool, true, false, not, cond}
+use mathlib.Core.Path.{_≡_, sym, ap, _∙_}
+use mathlib.Core.Bool.{true, false}
 use mathlib.Core.List.{List, [], _∷_, _++_}
-use Prim.Native.Nat.{ℕ, zero, suc, _+_, _-_, _*_, _/_, _%_, _≤_, _<_}
+use Prim.Native.Nat.{ℕ, _+_, _-_, _≤_, _<_}
 use native.Mathlib.Nat.{add-zero}
 use native.Mathlib.Omega.{arith}
 use lib.Dec.{eqb}
-use lib.ListN.{length, take, drop, getD, replicate, length-append, length-replicate}
+use lib.ListN.{length, take, drop, replicate, length-append, length-replicate}
 use lib.Seq.{length-take-le}
 use borrow.Author.Tests.{ne-eqb}
 use Rattle.rules.specs.Octets.{window}
-use Rattle.rules.specs.Assigned.{hopByHop, routingHeader, fragmentHeader, destinationOptions, endMGtp4E}
+use Rattle.rules.specs.Assigned.{routingHeader, endMGtp4E}
 use Rattle.rules.specs.Table.{entryAt}
 use Rattle.rules.specs.Entry as Entry
 use Rattle.rules.specs.Rule as Rule
 use Rattle.rules.specs.Ipv6 as Ipv6
 use Rattle.rules.specs.Ipv6.{ipv6}
-use Rattle.rules.specs.Ipv4.{ipv4}
 use Rattle.rules.specs.Srh.{srh}
 use Rattle.rules.specs.Srv6.{srv6Payload}
-use Rattle.rules.specs.Args.{argsAt, withArgs}
-use Rattle.rules.specs.Gtpu.{datagramOctets}
-use Rattle.rules.specs.Answer.{Outcome, Sent, unless, lengthRow}
+use Rattle.rules.specs.Args.{argsAt}
+use Rattle.rules.specs.Answer.{Sent, unless, lengthRow}
 use Rattle.rules.specs.Header.{header, malformed, badChain, segmentsRemain}
 use Rattle.rules.specs.Session.{accepts}
 use Rattle.rules.specs.Carried.{Carried}
@@ -34,7 +32,7 @@ use Rattle.rules.proofs.Rows.{Clear, None, clear, unless-none}
 use Rattle.rules.proofs.Reading.{ipv6-drop, ipv6-header, ipv6-source, ipv6-destination, ipv6-trafficClass}
 use Rattle.rules.proofs.Waypoints.{onTheWay, Way, way-header, way-destination, way-wellformed, way-inner}
 use Rattle.rules.proofs.Entries.{at-e4, entry-sends}
-use Rattle.rules.proofs.Sids.{Fits, withArgs-length, withArgs-back, withArgs-before}
+use Rattle.rules.proofs.Sids.{withArgs-length, withArgs-back, withArgs-before}
 use Rattle.rules.proofs.FarE6.{Valid}
 use Rattle.rules.proofs.Sessions.{Carries}
 

@@ -1,23 +1,20 @@
 -- The call at E6: it reads the values that Di wrote, and sends the packet made from them.
-use mathlib.Core.Path.{_≡_, refl, sym, ap, _∙_}
-use mathlib.Core.Bool.{Bool, true, false, not, cond}
+use mathlib.Core.Path.{_≡_, sym, ap, _∙_}
+use mathlib.Core.Bool.{true}
 use mathlib.Core.List.{List, [], _∷_, _++_}
-use Prim.Native.Nat.{ℕ, zero, suc, _+_, _-_, _*_, _/_, _%_, _≤_, _<_}
+use Prim.Native.Nat.{ℕ, _+_, _-_, _≤_, _<_}
 use native.Mathlib.Omega.{arith}
-use lib.Dec.{eqb}
-use lib.ListN.{length, drop, getD, length-append}
-use borrow.Author.Tests.{le-ltb}
-use Rattle.rules.specs.Octets.{octet, window}
+use lib.ListN.{length, length-append}
+use Rattle.rules.specs.Octets.{octet}
 use Rattle.rules.specs.Assigned.{udpProtocol, routingHeader, endMGtp6E}
 use Rattle.rules.specs.Table.{entryAt}
 use Rattle.rules.specs.Entry as Entry
 use Rattle.rules.specs.Ipv6 as Ipv6
-use Rattle.rules.specs.Ipv6.{ipv6}
-use Rattle.rules.specs.Srh.{segment, segments, srh}
+use Rattle.rules.specs.Srh.{segment, srh}
 use Rattle.rules.specs.Srv6.{srv6Payload}
 use Rattle.rules.specs.Args.{Args, argsAt, withArgs}
 use Rattle.rules.specs.Gtpu.{datagramOctets}
-use Rattle.rules.specs.Answer.{Outcome, Sent, unless, lengthRow}
+use Rattle.rules.specs.Answer.{Sent, unless, lengthRow}
 use Rattle.rules.specs.Header.{header}
 use Rattle.rules.specs.Session.{accepts}
 use Rattle.rules.specs.Carried.{Carried}
@@ -26,7 +23,7 @@ use Rattle.rules.specs.Trip.{Stop, call}
 use Rattle.rules.specs.Demand3.{AtEntry, HasRoom}
 use Rattle.rules.proofs.Windows.{window-length, window-drop}
 use Rattle.rules.proofs.Rows.{None, clear, unless-none}
-use Rattle.rules.proofs.Reading.{Addresses, ipv6-length, ipv6-segment, ipv6-trafficClass}
+use Rattle.rules.proofs.Reading.{ipv6-length, ipv6-segment, ipv6-trafficClass}
 use Rattle.rules.proofs.Waypoints.{onTheWay, Way, way-header, way-destination, way-wellformed, way-inner, segment-behind}
 use Rattle.rules.proofs.Entries.{at-e6, entry-sends}
 use Rattle.rules.proofs.Sids.{Fits, withArgs-length, withArgs-back}

@@ -1,10 +1,8 @@
 -- How code that tests rows one by one is proved: each `return` follows from the tests that led there.
 use mathlib.Core.Path.{_≡_, refl, sym, ap, _∙_}
-use mathlib.Core.Bool.{Bool, true, false, not, cond, _&&_, _||_}
+use mathlib.Core.Bool.{Bool, true, false, cond, _&&_, _||_}
 use mathlib.Core.List.{List, [], _∷_, _++_}
-use Prim.Native.Nat.{ℕ}
-use native.Mathlib.Omega.{arith}
-use Rattle.rules.specs.Answer.{Row, given, any, verdict, Outcome, Sent, Refused, after, unless, first}
+use Rattle.rules.specs.Answer.{Row, given, any, verdict, Outcome, after, unless, first}
 use Rattle.rules.specs.declared.Refusal.{Refusal}
 use Rattle.rules.specs.declared.Verdict.{Verdict}
 use Rattle.rules.specs.declared.Verdict.the-variants.{Pass, Refuse}

@@ -1,20 +1,19 @@
 -- Reading back the UDP datagram with a G-PDU that E6 and E4 write.
 use mathlib.Core.Path.{_≡_, refl, sym, ap, _∙_}
 use mathlib.Core.Bool.{Bool, true, false, cond}
-use mathlib.Core.List.{List, [], _∷_, _++_}
-use Prim.Native.Nat.{ℕ, zero, suc, _+_, _-_, _*_, _/_, _%_, _≤_, _<_}
+use mathlib.Core.List.{List, _∷_}
+use Prim.Native.Nat.{ℕ, _+_, _-_, _*_, _/_, _%_, _<_}
 use native.Mathlib.Omega.{arith}
 use lib.Dec.{eqb}
 use lib.ListN.{length, drop, getD}
 use lib.Seq.{getD-drop}
-use Rattle.rules.specs.Octets.{octet, Octets, window}
+use Rattle.rules.specs.Octets.{octet, window}
 use Rattle.rules.specs.Assigned.{downlink, pduSessionContainer, gtpuPort, gPdu}
 use Rattle.rules.specs.Args.{Args}
 use Rattle.rules.specs.Gtpu as Gtpu
 use Rattle.rules.specs.Gtpu.{datagramOctets, flowOctet, gtpuFlags}
 use Rattle.rules.specs.Datagram.{datagram}
 use Rattle.rules.specs.Carried.{Carried, carriedBy}
-use Rattle.rules.specs.declared.Datagram.{Datagram}
 use Rattle.rules.proofs.Windows.{drop-past, window-front, window-length}
 use Rattle.rules.proofs.Sids.{Fits}
 use Rattle.rules.proofs.FarE6.{datagram-length}

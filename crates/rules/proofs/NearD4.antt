@@ -1,11 +1,11 @@
 -- The call at D4: what a packet that is sent on tells, and what becomes there of the packet that E4 wrote.
 use mathlib.Core.Path.{_≡_, refl, sym, ap, _∙_}
-use mathlib.Core.Bool.{Bool, true, false, cond}
-use mathlib.Core.List.{List, [], _∷_, _++_}
-use Prim.Native.Nat.{ℕ, zero, suc, _+_, _-_, _*_, _/_, _%_, _≤_, _<_}
+use mathlib.Core.Bool.{true, cond}
+use mathlib.Core.List.{List, _++_}
+use Prim.Native.Nat.{ℕ, _+_, _-_, _*_, _/_, _%_, _≤_, _<_}
 use native.Mathlib.Omega.{arith}
 use lib.Dec.{eqb}
-use lib.ListN.{length, drop, length-append, length-drop}
+use lib.ListN.{length, length-drop}
 use borrow.Author.Tests.{le-leb, not-false, eqb-false}
 use Rattle.rules.specs.Octets.{octet, Octets, window}
 use Rattle.rules.specs.Assigned.{udpProtocol, downlink}
@@ -27,12 +27,10 @@ use Rattle.rules.specs.Calls.{frontRows4, atFoundRule, decide4, translat
 use Rattle.rules.specs.Trip.{Stop, call}
 use Rattle.rules.specs.Demand3.{AtRule}
 use Rattle.rules.specs.declared.Found.{Found}
-use Rattle.rules.specs.declared.Header4.{Header4}
 use Rattle.rules.specs.declared.Found.the-variants.{At}
 use Rattle.rules.proofs.Windows.{drop-past, window-length, window-past, window-front}
 use Rattle.rules.proofs.Rows.{Clear, None, clear, read, unless-none, unless-sent, settle-sent, sent-settle}
-use Rattle.rules.proofs.Sids.{Fits}
-use Rattle.rules.proofs.FarE6.{Valid, datagram-length}
+use Rattle.rules.proofs.FarE6.{Valid}
 use Rattle.rules.proofs.FarE4.{e4-length}
 use Rattle.rules.proofs.Messages.{datagram-back, carriedBy-back, carriedBy-fits, carriedBy-quiet}
 use Rattle.rules.proofs.Checksums.{ipv4-sum}

@@ -1,11 +1,11 @@
 -- The call at D and Di: what a packet that is sent on tells, and what becomes there of the packet that E6 wrote.
 use mathlib.Core.Path.{_≡_, refl, sym, ap, _∙_}
-use mathlib.Core.Bool.{Bool, true, false, cond}
-use mathlib.Core.List.{List, [], _∷_, _++_}
-use Prim.Native.Nat.{ℕ, zero, suc, _+_, _-_, _*_, _/_, _%_, _≤_, _<_}
+use mathlib.Core.Bool.{cond}
+use mathlib.Core.List.{List, []}
+use Prim.Native.Nat.{ℕ, _+_, _-_}
 use native.Mathlib.Omega.{arith}
-use lib.Dec.{eqb, leb}
-use lib.ListN.{length, drop}
+use lib.Dec.{eqb}
+use lib.ListN.{length}
 use borrow.Author.Tests.{le-leb}
 use Rattle.rules.specs.Octets.{octet, Octets}
 use Rattle.rules.specs.Assigned.{udpProtocol, downlink}
@@ -19,11 +19,9 @@ use Rattle.rules.specs.Datagram.{datagram, messageRows, gPduRows}
 use Rattle.rules.specs.Carried.{Carried, carriedBy, carried6, datagramIn6}
 use Rattle.rules.specs.Gtp6D.{gtp6Rows, gtp6DRows, atGtp6D}
 use Rattle.rules.specs.E6.{e6Packet, e6Payload}
-use Rattle.rules.specs.declared.Header.{Header}
 use Rattle.rules.proofs.Windows.{window-length}
 use Rattle.rules.proofs.Rows.{Clear, None, clear, read, unless-none, unless-sent}
 use Rattle.rules.proofs.Reading.{ipv6-drop, ipv6-header, ipv6-destination, ipv6-trafficClass}
-use Rattle.rules.proofs.Sids.{Fits}
 use Rattle.rules.proofs.FarE6.{Valid, datagram-length}
 use Rattle.rules.proofs.Messages.{datagram-back, carriedBy-back, carriedBy-fits, carriedBy-quiet}
 

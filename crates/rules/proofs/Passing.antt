@@ -1,14 +1,14 @@
 -- The calls at a list of waypoints: hop limit and Segments Left fall by their number, and the destination is the next on the path.
-use mathlib.Core.Path.{_≡_, refl, sym, ap, _∙_}
+use mathlib.Core.Path.{_≡_, sym, ap, _∙_}
 use mathlib.Core.List.{List, [], _∷_, _++_, append-assoc}
-use Prim.Native.Nat.{ℕ, zero, suc, _+_, _-_, _*_, _≤_, _<_}
+use Prim.Native.Nat.{ℕ, suc, _+_, _-_, _*_, _<_}
 use native.Mathlib.Nat.{sub-zero}
 use native.Mathlib.Omega.{arith}
 use lib.ListN.{length, drop, length-append}
 use Rattle.rules.specs.Assigned.{end}
 use Rattle.rules.specs.Ipv6 as Ipv6
 use Rattle.rules.specs.Table.{entryAt}
-use Rattle.rules.specs.Answer.{Sent, unless}
+use Rattle.rules.specs.Answer.{Sent}
 use Rattle.rules.specs.Header.{header}
 use Rattle.rules.specs.Waypoint.{forwarded, waypointRows, atWaypoint}
 use Rattle.rules.specs.Trip.{Stop, trip, call}

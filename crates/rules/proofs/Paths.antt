@@ -1,9 +1,9 @@
 -- A packet written along a path arrives, past the waypoints, at what lies behind them.
-use mathlib.Core.Path.{_≡_, refl, sym, ap, _∙_}
-use mathlib.Core.List.{List, [], _∷_, _++_}
+use mathlib.Core.Path.{_≡_, refl, sym, ap}
+use mathlib.Core.List.{List, _++_}
 use Prim.Native.Nat.{ℕ, zero, suc, _+_, _-_, _*_, _≤_, _<_}
 use native.Mathlib.Omega.{arith}
-use lib.ListN.{length, take, drop, length-append, take-append-drop}
+use lib.ListN.{length, take, length-append, take-append-drop}
 use Rattle.rules.specs.Table.{addressesAt}
 use Rattle.rules.specs.Srv6.{srv6, srv6Payload}
 use Rattle.rules.specs.Answer.{Sent}

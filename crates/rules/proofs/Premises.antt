@@ -1,13 +1,12 @@
 -- The premises of demand 3 can be met: trips from Di to E6 and from D4 to E4, past no waypoint and past two, checked by computation.
-use mathlib.Core.Path.{_≡_, refl}
-use mathlib.Core.Bool.{Bool, true, false}
-use mathlib.Core.List.{List, [], _∷_, _++_}
-use Prim.Native.Nat.{ℕ, _+_, _-_, _*_}
+use mathlib.Core.Path.{refl}
+use mathlib.Core.List.{List, [], _∷_}
+use Prim.Native.Nat.{ℕ, _-_}
 use lib.Dec.{lit<, lit≤}
-use lib.ListN.{length, replicate}
-use Rattle.rules.specs.Octets.{octet, window, number, splice}
+use lib.ListN.{replicate}
+use Rattle.rules.specs.Octets.{window, number}
 use Rattle.rules.specs.Prefix.{firstBits, under, clear}
-use Rattle.rules.specs.Assigned.{end, endMGtp6D, endMGtp6DDi, endMGtp6E, endMGtp4E}
+use Rattle.rules.specs.Assigned.{end, endMGtp6D, endMGtp6DDi}
 use Rattle.rules.specs.Table.{entryAt, ruleAt, policyAt, addressesAt}
 use Rattle.rules.specs.Ipv6 as Ipv6
 use Rattle.rules.specs.Ipv4 as Ipv4
@@ -15,21 +14,21 @@ use Rattle.rules.specs.Match.{longest, matchEntry, matchRule}
 use Rattle.rules.specs.Sound.{all, headerSound, entrySound, ruleSound, policySound, sameEntryPrefix, sameRulePrefix, distinct, soundWithin}
 use Rattle.rules.specs.Checksum.{onesSum}
 use Rattle.rules.specs.Args.{argsAt, withArgs}
-use Rattle.rules.specs.Answer.{Outcome, Sent, verdict, settle}
+use Rattle.rules.specs.Answer.{verdict, settle}
 use Rattle.rules.specs.Header.{header}
 use Rattle.rules.specs.Datagram.{innerRows, datagram, messageRows, gPduRows}
 use Rattle.rules.specs.Session.{innerProtocol}
 use Rattle.rules.specs.Carried.{carriedBy, carried6, carried4}
 use Rattle.rules.specs.Gtp6D.{gtp6DPacket, gtp6Rows, atGtp6D}
-use Rattle.rules.specs.D.{lastWithArgs, dPath, dPacket, atD}
+use Rattle.rules.specs.D.{dPath, dPacket, atD}
 use Rattle.rules.specs.Di.{diPath, diPacket, atDi}
 use Rattle.rules.specs.E6.{e6Packet}
 use Rattle.rules.specs.E4.{e4Packet}
 use Rattle.rules.specs.D4.{header4, d4Sid, d4Source, d4Packet, gtp4Rows, atD4}
 use Rattle.rules.specs.Calls.{frontRows6, frontRows4, atEntry, atFoundEntry, atFoundRule, decide6, decide4, translate6, translate4}
 use Rattle.rules.specs.Trip.{Version, v4, v6, Stop, call}
-use Rattle.rules.specs.Demand3.{AtEntry, AtRule, Matching, over6, over4, Matching6, Matching4, MatchingD}
-use Rattle.rules.proofs.Samples.{zeros, sidOf, table, packet6, packet4, bytes-octets}
+use Rattle.rules.specs.Demand3.{AtEntry, Matching, over6, over4, MatchingD}
+use Rattle.rules.proofs.Samples.{sidOf, table, packet6, packet4, bytes-octets}
 
 abbrev pub stopOf : Version → (behaviour waypoints : ℕ) → Stop
 stopOf version behaviour waypoints = record { version = version; table = table behaviour waypoints; buffer = replicate 300 255 }

@@ -1,19 +1,18 @@
 -- Reading back an IPv6 header and what follows it.
 use mathlib.Core.Path.{_≡_, refl, sym, ap, _∙_}
-use mathlib.Core.Bool.{Bool, true, false, cond}
+use mathlib.Core.Bool.{cond}
 use mathlib.Core.List.{List, [], _∷_, _++_}
-use Prim.Native.Nat.{ℕ, zero, suc, _+_, _-_, _*_, _/_, _%_, _≤_, _<_}
+use Prim.Native.Nat.{ℕ, suc, _+_, _-_, _*_, _/_, _%_, _<_}
 use native.Mathlib.Omega.{arith}
 use lib.Dec.{eqb}
-use lib.ListN.{length, take, drop, getD, length-append}
-use lib.Seq.{take-at, drop-at, drop-drop, getD-drop}
-use Rattle.rules.specs.Octets.{octet, window, read16}
+use lib.ListN.{length, drop, getD, length-append}
+use lib.Seq.{drop-at, drop-drop, getD-drop}
+use Rattle.rules.specs.Octets.{octet, window}
 use Rattle.rules.specs.Assigned.{routingHeader}
 use Rattle.rules.specs.Ipv6 as Ipv6
 use Rattle.rules.specs.Ipv6.{ipv6}
 use Rattle.rules.specs.Srh.{segment, segments}
 use Rattle.rules.specs.Header.{header}
-use Rattle.rules.specs.declared.Header.{Header}
 use Rattle.rules.proofs.Windows.{drop-past, window-drop, window-past, window-front}
 
 -- each is an address

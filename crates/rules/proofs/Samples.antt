@@ -1,14 +1,14 @@
 -- Sample tables and packets, as octets, for the worked packets and for trips that meet the premises of demand 3.
-use mathlib.Core.Path.{_≡_, refl}
-use mathlib.Core.Bool.{Bool, true, false, _&&_, false≢true}
+use mathlib.Core.Path.{_≡_}
+use mathlib.Core.Bool.{Bool, true, _&&_}
 use mathlib.Core.List.{List, [], _∷_, _++_}
-use Prim.Native.Nat.{ℕ, zero, suc, _+_, _-_, _*_, _<_}
+use Prim.Native.Nat.{ℕ, zero, suc, _+_, _-_, _*_}
 use native.Mathlib.Omega.{arith}
-use lib.Dec.{eqb, ltb}
+use lib.Dec.{ltb}
 use lib.ListN.{length, replicate}
 use borrow.Author.Tests.{ltb-true}
 use Rattle.rules.specs.Octets.{Octets, put16}
-use Rattle.rules.specs.Assigned.{end, endMGtp6D, endMGtp6DDi, endMGtp6E, endMGtp4E, ipv6Session, downlink}
+use Rattle.rules.specs.Assigned.{end, endMGtp6E, endMGtp4E, ipv6Session, downlink}
 use Rattle.rules.specs.Args.{Args}
 use Rattle.rules.specs.Carried.{Carried}
 use Rattle.rules.specs.E6.{e6Packet}

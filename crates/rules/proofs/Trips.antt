@@ -1,7 +1,7 @@
 -- Laws of trips: one stop more, two lists joined, the empty list, the buffers afterwards.
-use mathlib.Core.Path.{_≡_, refl, sym, ap, _∙_}
+use mathlib.Core.Path.{_≡_, refl, ap, _∙_}
 use mathlib.Core.List.{List, [], _∷_, _++_}
-use Prim.Native.Nat.{ℕ, zero, suc, _+_}
+use Prim.Native.Nat.{ℕ, suc, _+_}
 use lib.ListN.{length, take, drop, getD}
 use lib.Seq.{take-append-seam, getD-at}
 use native.Mathlib.Numerals.{add-one}
@@ -9,7 +9,6 @@ use Rattle.rules.specs.Octets.{splice}
 use Rattle.rules.specs.Answer.{Outcome, Sent, Refused, overlay}
 use Rattle.rules.specs.Trip.{Version, v4, v6, Stop, Trip, translate, call, onward, buffersOf, trip, stops}
 use Rattle.rules.specs.Calls.{translate6, translate4}
-use Rattle.rules.specs.declared.Refusal.{Refusal}
 
 -- the call that a stop makes
 pub call-v6 : (s : Stop) (p : List ℕ) → s .version ≡ v6 → call s p ≡ translate6 p (s .table) (length (s .buffer))

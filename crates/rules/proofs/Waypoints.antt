@@ -1,12 +1,9 @@
 -- A packet on its way: what a waypoint makes of it, and the calls at a list of waypoints, by induction over the way still to go.
-use mathlib.Core.Path.{_≡_, refl, sym, ap, _∙_}
-use mathlib.Core.Bool.{Bool, true, false, cond}
+use mathlib.Core.Path.{_≡_, sym, ap, _∙_}
 use mathlib.Core.List.{List, [], _∷_, _++_, append-assoc}
-use Prim.Native.Nat.{ℕ, zero, suc, _+_, _-_, _*_, _/_, _%_, _≤_, _<_}
-use native.Mathlib.Nat.{sub-zero}
+use Prim.Native.Nat.{ℕ, _+_, _-_, _*_, _/_, _%_, _≤_, _<_}
 use native.Mathlib.Omega.{arith}
-use lib.Dec.{ltb, eqb}
-use lib.ListN.{length, take, drop, getD, length-append}
+use lib.ListN.{length, take, drop, getD}
 use lib.Seq.{take-at, drop-drop, take-append-add}
 use borrow.Author.Tests.{lt-ltb}
 use Rattle.rules.specs.Octets.{octet, window, splice}
@@ -17,8 +14,7 @@ use Rattle.rules.specs.Srh.{segment, segments, srh}
 use Rattle.rules.specs.Srv6.{srv6Payload}
 use Rattle.rules.specs.Header.{header, malformed}
 use Rattle.rules.specs.Waypoint.{withRouting, forwarded, waypointRows, stepRows}
-use Rattle.rules.specs.declared.Header.{Header}
-use Rattle.rules.proofs.Windows.{drop-past, window-length, window-drop, window-past, window-front}
+use Rattle.rules.proofs.Windows.{drop-past, window-length, window-drop, window-front}
 use Rattle.rules.proofs.Rows.{Clear, None, clear}
 use Rattle.rules.proofs.Reading.{Addresses, length-segments, drop-segments, segments-append, ipv6-length, ipv6-drop, ipv6-octet, ipv6-destination, ipv6-segment, ipv6-header}
 

@@ -1,11 +1,11 @@
 -- Laws of windows: their length, and where their octets lie.
 use mathlib.Core.Path.{_≡_, refl, sym, ap, _∙_}
 use mathlib.Core.List.{List, [], _∷_, _++_}
-use Prim.Native.Nat.{ℕ, zero, suc, _+_, _-_, _*_, _≤_, _<_}
-use native.Mathlib.Nat.{add-zero, add-suc}
+use Prim.Native.Nat.{ℕ, zero, suc, _+_, _-_, _≤_, _<_}
+use native.Mathlib.Nat.{add-zero}
 use native.Mathlib.Omega.{arith}
-use lib.ListN.{length, take, drop, getD}
-use lib.Seq.{getD-drop, getD-append-add, drop-append-add, drop-cons, take-at}
+use lib.ListN.{length, take, drop}
+use lib.Seq.{getD-drop, getD-append-add, drop-append-add}
 use Rattle.rules.specs.Octets.{octet, window, Octets}
 
 -- what lies past a front of a known length

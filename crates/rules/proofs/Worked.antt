@@ -1,12 +1,12 @@
 -- The starred worked packets of document 01: rows of one list, under one claim about the definitions.
 use mathlib.Core.Bool.{Bool, true, false, _&&_}
-use mathlib.Core.List.{List, [], _∷_, _++_}
-use Prim.Native.Nat.{ℕ, _+_, _-_, _*_}
+use mathlib.Core.List.{List, [], _∷_}
+use Prim.Native.Nat.{ℕ, _-_}
 use lib.Dec.{T, eqb}
 use lib.ListN.{length, take, replicate}
-use Rattle.rules.specs.Octets.{octet, window, number, splice}
+use Rattle.rules.specs.Octets.{window, number, splice}
 use Rattle.rules.specs.Prefix.{firstBits, under, clear}
-use Rattle.rules.specs.Assigned.{end, endMGtp6D, endMGtp6DDi, endMGtp6E, ipv6Protocol, routingHeader}
+use Rattle.rules.specs.Assigned.{endMGtp6D, endMGtp6DDi, ipv6Protocol, routingHeader}
 use Rattle.rules.specs.Table.{entryAt, ruleAt, policyAt, addressesAt}
 use Rattle.rules.specs.Match.{longest, matchEntry, matchRule}
 use Rattle.rules.specs.Sound.{all, headerSound, entrySound, ruleSound, policySound, sameEntryPrefix, sameRulePrefix, distinct, soundWithin}
@@ -30,7 +30,7 @@ use Rattle.rules.specs.D4.{d4Sid, d4Source}
 use Rattle.rules.specs.Calls.{frontRows6, atEntry, atFoundEntry, decide6, translate6}
 use Rattle.rules.specs.Trip.{Stop, v6, trip}
 use Rattle.rules.proofs.Samples as Samples
-use Rattle.rules.proofs.Samples.{zeros, sidOf, gateway6, argsOf, table, values4, packet6}
+use Rattle.rules.proofs.Samples.{sidOf, gateway6, argsOf, table, values4, packet6}
 
 pub record Example : Type 0 where
   pub got : List ℕ

@@ -6,15 +6,10 @@ use mathlib.Core.Path.{ap}
 use borrow.Author.Needs.{needs}
 use Rattle.ip.proofs.bad_chain.Statement.{statement}
 use Rattle.ip.proofs.bad_chain.Tie as tie
-use Rattle.ip.proofs.bad_chain.Reads as reads
-use Rattle.ip.proofs.bad_chain.Lts as lts
-use Rattle.ip.proofs.bad_srh.Reads as bad-srh-reads
 
--- src/lib.rt:94:63
 bad-srh-requires : tie.Need-bad-srh-requires
 bad-srh-requires c κs = search needs
 
--- src/lib.rt:89:1
 returns : tie.Need-returns
 returns c = let h = c .before .before .before .before .before .args .h in rw (c .bad-srh .ensures) (ap (λ (b : Bool). eqb (h .nextHeader) 0 || (eqb (h .nextHeader) 44 || (eqb (h .nextHeader) 60 || b))) (any-given (eqb (h .nextHeader) 43) (badSrh h)))
 

@@ -1,56 +1,40 @@
 use borrow.Author.Needs.{needs}
 use Rattle.ip.proofs.header4_of.Statement.{statement}
 use Rattle.ip.proofs.header4_of.Tie as tie
-use Rattle.ip.proofs.header4_of.Reads as reads
-use Rattle.ip.proofs.header4_of.Lts as lts
-use Rattle.ip.proofs.header_sum.Reads as header-sum-reads
-use Rattle.octets.proofs.join16.Reads as join16-reads
 
--- src/lib.rt:169:18
 array-read-t6 : tie.Need-array-read-t6
 array-read-t6 c = search needs
 
--- src/lib.rt:170:23
 array-read-t10 : tie.Need-array-read-t10
 array-read-t10 c = search needs
 
--- src/lib.rt:171:37
 array-read-join16 : tie.Need-array-read-join16
 array-read-join16 c = search needs
 
--- src/lib.rt:171:47
 array-read-join16-2 : tie.Need-array-read-join16-2
 array-read-join16-2 c = search needs
 
--- src/lib.rt:171:22
 join16-requires : tie.Need-join16-requires
 join16-requires c κs = search needs
 
--- src/lib.rt:172:24
 array-read-t21 : tie.Need-array-read-t21
 array-read-t21 c = search needs
 
--- src/lib.rt:173:40
 array-read-join16-3 : tie.Need-array-read-join16-3
 array-read-join16-3 c = search needs
 
--- src/lib.rt:173:55
 array-read-join16-4 : tie.Need-array-read-join16-4
 array-read-join16-4 c = search needs
 
--- src/lib.rt:173:25
 join16-requires-2 : tie.Need-join16-requires-2
 join16-requires-2 c κs = search needs
 
--- src/lib.rt:174:19
 array-read-t34 : tie.Need-array-read-t34
 array-read-t34 c = search needs
 
--- src/lib.rt:175:20
 header-sum-requires : tie.Need-header-sum-requires
 header-sum-requires c κs = search needs
 
--- src/lib.rt:164:1
 returns : tie.Need-returns
 returns c = rw (c .header-sum .ensures, c .before .join162 .ensures .0, c .before .before .join16 .ensures .0)
 

@@ -1,4 +1,4 @@
-use Rattle.rules.proofs.Checksums.{wordSum, fold, onesSum-fold, octets-each}
+use Rattle.rules.proofs.Checksums.{wordSum, onesSum-fold, octets-each}
 use Rattle.rules.specs.Octets.{Octets, window}
 use native.Mathlib.Omega.{arith}
 use Prim.Native.Nat.{ℕ, _+_, _-_, _*_, _/_}
@@ -7,108 +7,79 @@ use mathlib.Core.Path.{_≡_, sym, ap, _∙_}
 use borrow.Author.Needs.{needs}
 use Rattle.ip.proofs.header_sum.Statement.{statement}
 use Rattle.ip.proofs.header_sum.Tie as tie
-use Rattle.ip.proofs.header_sum.Reads as reads
-use Rattle.ip.proofs.header_sum.Lts as lts
-use Rattle.ip.proofs.five.Reads as five-reads
-use Rattle.ip.proofs.folded.Reads as folded-reads
 
--- src/lib.rt:158:9
 array-read-five : tie.Need-array-read-five
 array-read-five c = search needs
 
--- src/lib.rt:158:19
 array-read-five-2 : tie.Need-array-read-five-2
 array-read-five-2 c = search needs
 
--- src/lib.rt:158:29
 array-read-five-3 : tie.Need-array-read-five-3
 array-read-five-3 c = search needs
 
--- src/lib.rt:158:39
 array-read-five-4 : tie.Need-array-read-five-4
 array-read-five-4 c = search needs
 
--- src/lib.rt:158:49
 array-read-five-5 : tie.Need-array-read-five-5
 array-read-five-5 c = search needs
 
--- src/lib.rt:158:59
 array-read-five-6 : tie.Need-array-read-five-6
 array-read-five-6 c = search needs
 
--- src/lib.rt:158:69
 array-read-five-7 : tie.Need-array-read-five-7
 array-read-five-7 c = search needs
 
--- src/lib.rt:158:79
 array-read-five-8 : tie.Need-array-read-five-8
 array-read-five-8 c = search needs
 
--- src/lib.rt:158:89
 array-read-five-9 : tie.Need-array-read-five-9
 array-read-five-9 c = search needs
 
--- src/lib.rt:158:99
 array-read-five-10 : tie.Need-array-read-five-10
 array-read-five-10 c = search needs
 
--- src/lib.rt:157:9
 five-requires : tie.Need-five-requires
 five-requires c κs = search needs
 
--- src/lib.rt:161:9
 array-read-five-11 : tie.Need-array-read-five-11
 array-read-five-11 c = search needs
 
--- src/lib.rt:161:20
 array-read-five-12 : tie.Need-array-read-five-12
 array-read-five-12 c = search needs
 
--- src/lib.rt:161:31
 array-read-five-13 : tie.Need-array-read-five-13
 array-read-five-13 c = search needs
 
--- src/lib.rt:161:42
 array-read-five-14 : tie.Need-array-read-five-14
 array-read-five-14 c = search needs
 
--- src/lib.rt:161:53
 array-read-five-15 : tie.Need-array-read-five-15
 array-read-five-15 c = search needs
 
--- src/lib.rt:161:64
 array-read-five-16 : tie.Need-array-read-five-16
 array-read-five-16 c = search needs
 
--- src/lib.rt:161:75
 array-read-five-17 : tie.Need-array-read-five-17
 array-read-five-17 c = search needs
 
--- src/lib.rt:161:86
 array-read-five-18 : tie.Need-array-read-five-18
 array-read-five-18 c = search needs
 
--- src/lib.rt:161:97
 array-read-five-19 : tie.Need-array-read-five-19
 array-read-five-19 c = search needs
 
--- src/lib.rt:161:108
 array-read-five-20 : tie.Need-array-read-five-20
 array-read-five-20 c = search needs
 
--- src/lib.rt:160:9
 five-requires-2 : tie.Need-five-requires-2
 five-requires-2 c κs = search needs
 
--- src/lib.rt:163:12
 add-folded : tie.Need-add-folded
 add-folded c = search needs
 
--- src/lib.rt:163:5
 folded-requires : tie.Need-folded-requires
 folded-requires c κs = search needs
 
--- src/lib.rt:154:1
 returns : tie.Need-returns
 unfolding window wordSum
 returns c =

@@ -1,61 +1,45 @@
 use Rattle.octets.proofs.Laws.{first, next, run-as}
 use denote.Ref.{now}
 use native.Mathlib.Omega.{arith}
-use Prim.Native.Nat.{ℕ, _+_, _*_, _/_, _%_}
-use mathlib.Core.List.{List, [], _∷_, _++_, append-nil}
-use mathlib.Core.Path.{_≡_, refl, sym, ap, _∙_}
+use mathlib.Core.List.{append-nil}
+use mathlib.Core.Path.{refl}
 use borrow.Author.Needs.{needs}
 use Rattle.ip.proofs.put_ipv6.Statement.{statement}
 use Rattle.ip.proofs.put_ipv6.Tie as tie
-use Rattle.ip.proofs.put_ipv6.Reads as reads
-use Rattle.ip.proofs.put_ipv6.Lts as lts
-use Rattle.octets.proofs.copy_to.Reads as copy-to-reads
 
--- src/lib.rt:117:9
 add-t12 : tie.Need-add-t12
 add-t12 c = search needs
 
--- src/lib.rt:118:9
 mul-t14 : tie.Need-mul-t14
 mul-t14 c = search needs
 
--- src/lib.rt:121:9
 cast-t16 : tie.Need-cast-t16
 cast-t16 c = search needs
 
--- src/lib.rt:122:9
 cast-t18 : tie.Need-cast-t18
 cast-t18 c = search needs
 
--- src/lib.rt:126:29
 slice-aggregate-copy-to : tie.Need-slice-aggregate-copy-to
 slice-aggregate-copy-to c = search needs
 
--- src/lib.rt:126:5
 copy-to-requires : tie.Need-copy-to-requires
 copy-to-requires c κs = search needs
 
--- src/lib.rt:127:29
 slice-aggregate-copy-to-2 : tie.Need-slice-aggregate-copy-to-2
 slice-aggregate-copy-to-2 c = search needs
 
--- src/lib.rt:127:5
 copy-to-requires-2 : tie.Need-copy-to-requires-2
 copy-to-requires-2 c κs = search needs
 
--- src/lib.rt:128:30
 slice-aggregate-copy-to-3 : tie.Need-slice-aggregate-copy-to-3
 slice-aggregate-copy-to-3 c = search needs
 
--- src/lib.rt:128:5
 copy-to-requires-3 : tie.Need-copy-to-requires-3
 copy-to-requires-3 c κs = search needs
 
--- src/lib.rt:112:1
 same-length : tie.Need-same-length
 same-length c = search needs
 
--- src/lib.rt:112:1
 returns : tie.Need-returns
 returns c =
     let s = c .before .before .before .before .before .before .before .before .before .before .before .before .before .before .before .before in

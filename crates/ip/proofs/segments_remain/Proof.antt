@@ -4,10 +4,7 @@ use lib.Dec.{eqb}
 use mathlib.Core.List.{[], _∷_}
 use Rattle.ip.proofs.segments_remain.Statement.{statement}
 use Rattle.ip.proofs.segments_remain.Tie as tie
-use Rattle.ip.proofs.segments_remain.Reads as reads
-use Rattle.ip.proofs.segments_remain.Lts as lts
 
--- src/lib.rt:105:1
 returns : tie.Need-returns
 returns c = let h = c .before .before .args .h in any-given (eqb (h .nextHeader) 43) (differs (h .segmentsLeft) 0 ∷ [])
 

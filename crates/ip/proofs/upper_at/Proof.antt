@@ -2,22 +2,16 @@ use borrow.Author.Tests.{eq-eqb, ne-eqb}
 use borrow.Author.Needs.{needs}
 use Rattle.ip.proofs.upper_at.Statement.{statement}
 use Rattle.ip.proofs.upper_at.Tie as tie
-use Rattle.ip.proofs.upper_at.Reads as reads
-use Rattle.ip.proofs.upper_at.Lts as lts
 
--- src/lib.rt:19:14
 mul-result : tie.Need-mul-result
 mul-result c = search needs
 
--- src/lib.rt:19:9
 add-result : tie.Need-add-result
 add-result c = search needs
 
--- src/lib.rt:15:1
 returns : tie.Need-returns
 returns c = rw (eq-eqb _ _ (c .if1 .taken))
 
--- src/lib.rt:15:1
 returns-2 : tie.Need-returns-2
 returns-2 c = rw (ne-eqb _ _ (c .if1 .left))
 

@@ -8,24 +8,16 @@ use mathlib.Core.Path.{ap, _∙_}
 use borrow.Author.Needs.{needs}
 use Rattle.kawsarpa.proofs.kawsarpa_translate_ipv4.Statement.{statement}
 use Rattle.kawsarpa.proofs.kawsarpa_translate_ipv4.Tie as tie
-use Rattle.kawsarpa.proofs.kawsarpa_translate_ipv4.Reads as reads
-use Rattle.kawsarpa.proofs.kawsarpa_translate_ipv4.Lts as lts
-use Rattle.gateway.proofs.answer.Answer.pack.Reads as pack-reads
-use Rattle.gateway.proofs.translate_ipv4.Reads as translate-ipv4-reads
 
--- src/lib.rt:23:5
 translate-ipv4-requires : tie.Need-translate-ipv4-requires
 translate-ipv4-requires c κs = search needs
 
--- src/lib.rt:23:5
 pack-requires : tie.Need-pack-requires
 pack-requires c κs = c .before .before .translate-ipv4 .ensures .small
 
--- src/lib.rt:18:1
 same-length : tie.Need-same-length
 same-length c = search needs
 
--- src/lib.rt:18:1
 returns : tie.Need-returns
 returns c =
     let a = c .before .before .before .before .before .before .before .before .args in

@@ -8,24 +8,16 @@ use mathlib.Core.Path.{ap, _∙_}
 use borrow.Author.Needs.{needs}
 use Rattle.kawsarpa.proofs.kawsarpa_translate_ipv6.Statement.{statement}
 use Rattle.kawsarpa.proofs.kawsarpa_translate_ipv6.Tie as tie
-use Rattle.kawsarpa.proofs.kawsarpa_translate_ipv6.Reads as reads
-use Rattle.kawsarpa.proofs.kawsarpa_translate_ipv6.Lts as lts
-use Rattle.gateway.proofs.answer.Answer.pack.Reads as pack-reads
-use Rattle.gateway.proofs.translate_ipv6.Reads as translate-ipv6-reads
 
--- src/lib.rt:14:5
 translate-ipv6-requires : tie.Need-translate-ipv6-requires
 translate-ipv6-requires c κs = search needs
 
--- src/lib.rt:14:5
 pack-requires : tie.Need-pack-requires
 pack-requires c κs = c .before .before .translate-ipv6 .ensures .small
 
--- src/lib.rt:9:1
 same-length : tie.Need-same-length
 same-length c = search needs
 
--- src/lib.rt:9:1
 returns : tie.Need-returns
 returns c =
     let a = c .before .before .before .before .before .before .before .before .args in

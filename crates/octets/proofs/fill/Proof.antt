@@ -1,10 +1,10 @@
-use Prim.Native.Nat.{ℕ, _+_, _-_, _≤_, _<_}
-use mathlib.Core.Path.{_≡_, refl, sym, ap, _∙_}
+use Prim.Native.Nat.{ℕ, _-_, _≤_, _<_}
+use mathlib.Core.Path.{_≡_, refl, sym, _∙_}
 use mathlib.Core.List.{List}
 use native.Mathlib.Omega.{arith}
 use native.Mathlib.Numerals.{add-one}
-use lib.ListN.{length, set, getD, length-set}
-use lib.Seq.{paste, paste-zero, paste-suc, length-paste}
+use lib.ListN.{length, getD, length-set}
+use lib.Seq.{paste, paste-zero}
 use denote.Ref.{now}
 use Rattle.rules.specs.Octets.{window}
 use Rattle.octets.proofs.Laws.{paste-splice, splice-whole}
@@ -13,9 +13,6 @@ use Rattle.octets.proofs.Windows.{paste-front}
 use borrow.Author.Needs.{needs}
 use Rattle.octets.proofs.fill.Statement.{statement}
 use Rattle.octets.proofs.fill.Tie as tie
-use Rattle.octets.proofs.fill.Reads as reads
-use Rattle.octets.proofs.fill.Lts as lts
-use Rattle.octets.proofs.octet_past.Reads as octet-past-reads
 
 abbrev Inv-loop : tie.InvT-loop
 Inv-loop out₀ s at i₀ out i = (i ≤ length out₀) × (out ≡ paste out₀ 0 (window s at (length out₀)) i) × (length out ≡ length out₀)

@@ -4,8 +4,6 @@ use lib.ListN.{List·getD-eq-default}
 use borrow.Author.Needs.{needs}
 use Rattle.octets.proofs.octet_or_0.Statement.{statement}
 use Rattle.octets.proofs.octet_or_0.Tie as tie
-use Rattle.octets.proofs.octet_or_0.Reads as reads
-use Rattle.octets.proofs.octet_or_0.Lts as lts
 
 shared-slice-read-result : tie.Need-shared-slice-read-result
 shared-slice-read-result c = search needs

@@ -7,8 +7,6 @@ use borrow.Author.Needs.{needs}
 use mathlib.Core.List.{List}
 use Rattle.octets.proofs.octet_past.Statement.{statement}
 use Rattle.octets.proofs.octet_past.Tie as tie
-use Rattle.octets.proofs.octet_past.Reads as reads
-use Rattle.octets.proofs.octet_past.Lts as lts
 
 past : (s : List ℕ) (at i : ℕ) → length s ≤ at + i → length s ≤ at + i
 past s at i h = h

@@ -1,4 +1,4 @@
-use mathlib.Core.Path.{_≡_, sym, _∙_}
+use mathlib.Core.Path.{sym, _∙_}
 use Prim.Native.Nat.{_+_, _≤_}
 use native.Mathlib.Omega.{arith}
 use lib.ListN.{length}
@@ -8,10 +8,6 @@ use Rattle.octets.proofs.Windows.{window-part}
 use borrow.Author.Needs.{needs}
 use Rattle.octets.proofs.window20.Statement.{statement}
 use Rattle.octets.proofs.window20.Tie as tie
-use Rattle.octets.proofs.window20.Reads as reads
-use Rattle.octets.proofs.window20.Lts as lts
-use Rattle.octets.proofs.copy_to.Reads as copy-to-reads
-use Rattle.octets.proofs.fill.Reads as fill-reads
 
 slice-aggregate-fill : tie.Need-slice-aggregate-fill
 slice-aggregate-fill c = search needs

@@ -1,16 +1,10 @@
-use mathlib.Core.Path.{_≡_, refl}
-use Prim.Native.Nat.{ℕ, _+_, _-_, _*_, _≤_}
+use Prim.Native.Nat.{_-_}
 use native.Mathlib.Omega.{arith}
-use lib.ListN.{length}
 use denote.Ref.{now}
 use borrow.Author.Needs.{needs}
 use Rattle.srh.proofs.Laws.{Reversing, reversing-start, reversing-next, reversing-end}
 use Rattle.srh.proofs.put_reversed.Statement.{statement}
 use Rattle.srh.proofs.put_reversed.Tie as tie
-use Rattle.srh.proofs.put_reversed.Reads as reads
-use Rattle.srh.proofs.put_reversed.Lts as lts
-use Rattle.octets.proofs.copy_to.Reads as copy-to-reads
-use Rattle.octets.proofs.window16.Reads as window16-reads
 
 abbrev Inv-loop : tie.InvT-loop
 Inv-loop out₀ at s from n k₀ out k = Reversing out₀ at s from n out k
@@ -18,66 +12,51 @@ Inv-loop out₀ at s from n k₀ out k = Reversing out₀ at s from n out k
 abbrev μ-loop : tie.MeasureT-loop
 μ-loop out₀ at s from n k₀ out k = n - k
 
--- src/lib.rt:131:5
 loop-holds : tie.Need-loop-holds Inv-loop μ-loop
 loop-holds c = let a = c .before .before .args in reversing-start (now (a .out)) (a .at) (now (a .s)) (a .from) (a .n)
 
--- src/lib.rt:132:50
 mul-window16 : tie.Need-mul-window16 Inv-loop μ-loop
 mul-window16 c = omega arith
 
--- src/lib.rt:132:43
 add-window16 : tie.Need-add-window16 Inv-loop μ-loop
 add-window16 c = omega arith
 
--- src/lib.rt:132:23
 window16-requires : tie.Need-window16-requires Inv-loop μ-loop
 window16-requires c κs = search needs
 
--- src/lib.rt:133:41
 sub-copy-to : tie.Need-sub-copy-to Inv-loop μ-loop
 sub-copy-to c = omega arith
 
--- src/lib.rt:133:41
 sub-copy-to-2 : tie.Need-sub-copy-to-2 Inv-loop μ-loop
 sub-copy-to-2 c = omega arith
 
--- src/lib.rt:133:35
 mul-copy-to : tie.Need-mul-copy-to Inv-loop μ-loop
 mul-copy-to c = omega arith
 
--- src/lib.rt:133:30
 add-copy-to : tie.Need-add-copy-to Inv-loop μ-loop
 add-copy-to c = omega arith
 
--- src/lib.rt:133:53
 slice-aggregate-copy-to : tie.Need-slice-aggregate-copy-to Inv-loop μ-loop
 slice-aggregate-copy-to c = search needs
 
--- src/lib.rt:133:9
 copy-to-requires : tie.Need-copy-to-requires Inv-loop μ-loop
 copy-to-requires c κs = search needs
 
--- src/lib.rt:134:9
 add-k : tie.Need-add-k Inv-loop μ-loop
 add-k c = omega arith
 
--- src/lib.rt:131:5
 loop-less : tie.Need-loop-less Inv-loop μ-loop
 loop-less c = omega arith
 
--- src/lib.rt:131:5
 loop-again : tie.Need-loop-again Inv-loop μ-loop
 loop-again c =
     let a = c .before .before .before .before .before .before .before .before .before .before .args in
     let l = c .before .before .before .before .before .before .before .loop in
     reversing-next (now (a .out)) (a .at) (now (a .s)) (a .from) (a .n) _ _ _ (l .k) (l .inv) (omega arith) (omega (arith, c .before .before .before .before .before .before .before .before .before .before)) (c .before .before .before .before .before .window16 .ensures) (c .before .before .copy-to .ensures) (c .before .before .copy-to .kept .0)
 
--- src/lib.rt:126:1
 same-length : tie.Need-same-length Inv-loop μ-loop
 same-length c = c .before .loop .inv .long
 
--- src/lib.rt:126:1
 returns : tie.Need-returns Inv-loop μ-loop
 returns c =
     let a = c .before .before .before .before .args in

@@ -2,58 +2,39 @@ use Rattle.gateway.proofs.Matches.{direction-below, last-behaviour, at-
 use borrow.Author.Tests.{ne-eqb}
 use Rattle.table.proofs.Bounds.{found-entry-within, policy-d-within, policy-di-within}
 use Rattle.rules.proofs.Tables.{found-entry, found-d, found-di, found-e6, found-e4}
-use Rattle.rules.specs.Calls.{atEntry}
 use Rattle.rules.specs.E4.{atE4}
 use Rattle.rules.specs.E6.{atE6}
 use Rattle.rules.specs.Di.{atDi}
 use Rattle.rules.specs.D.{atD}
 use Rattle.rules.specs.Ipv6 as Ipv6
-use Rattle.rules.specs.Policy as Policy
 use Rattle.rules.specs.Entry as Entry
 use Rattle.rules.specs.Table.{policies, entryAt, policyAt}
-use Rattle.rules.specs.Assigned.{end, endMGtp6D, endMGtp6DDi, endMGtp6E, endMGtp4E}
+use Rattle.rules.specs.Assigned.{end, endMGtp6D, endMGtp6DDi, endMGtp6E}
 use Rattle.rules.specs.Sound.{entryLimit}
-use Rattle.gateway.proofs.Settling.{answered-refused, answered-as}
-use Rattle.rules.specs.Answer.{Outcome, plain, settle}
-use Rattle.rules.specs.Octets.{octet, window}
+use Rattle.gateway.proofs.Settling.{answered-as}
+use Rattle.rules.specs.Answer.{settle}
+use Rattle.rules.specs.Octets.{octet}
 use denote.Ref.{now}
 use lib.ListN.{length}
-use native.Mathlib.Omega.{arith}
-use Prim.Native.Nat.{ℕ, _+_, _*_, _≤_, _<_}
+use Prim.Native.Nat.{ℕ}
 use mathlib.Core.List.{List}
-use mathlib.Core.Bool.{true, false}
-use mathlib.Core.Path.{_≡_, refl, sym, ap, _∙_, subst}
+use mathlib.Core.Path.{_≡_, sym, ap, _∙_}
 use borrow.Author.Needs.{needs}
 use Rattle.gateway.proofs.calls.at_entry.Statement.{statement}
 use Rattle.gateway.proofs.calls.at_entry.Tie as tie
-use Rattle.gateway.proofs.calls.at_entry.Reads as reads
-use Rattle.gateway.proofs.calls.at_entry.Lts as lts
-use Rattle.gateway.proofs.d.at_d.Reads as at-d-reads
-use Rattle.gateway.proofs.di.at_di.Reads as at-di-reads
-use Rattle.gateway.proofs.e4.at_e4.Reads as at-e4-reads
-use Rattle.gateway.proofs.e6.at_e6.Reads as at-e6-reads
-use Rattle.gateway.proofs.waypoint.at_waypoint.Reads as at-waypoint-reads
-use Rattle.octets.proofs.wide.Reads as wide-reads
-use Rattle.table.proofs.entry_at.Reads as entry-at-reads
-use Rattle.table.proofs.policy_at.Reads as policy-at-reads
 
--- src/calls.rt:40:9
 entry-at-requires : tie.Need-entry-at-requires
 entry-at-requires c κs = let s = c .before .before .before in let a = s .args in found-entry-within (now (a .table)) (s .pre .0) (Ipv6.destination (now (a .packet))) (a .i) (s .pre .1)
 
--- src/calls.rt:41:21
 shared-slice-read-behaviour : tie.Need-shared-slice-read-behaviour
 shared-slice-read-behaviour c = search needs
 
--- src/calls.rt:43:9
 at-waypoint-requires : tie.Need-at-waypoint-requires
 at-waypoint-requires c κs = search needs
 
--- src/calls.rt:43:9
 same-length : tie.Need-same-length
 same-length c = search needs
 
--- src/calls.rt:43:9
 returns : tie.Need-returns
 returns c =
     let s = c .before .before .before .before .before .before .before .before .before .before in
@@ -67,15 +48,12 @@ returns c =
     let b : Entry.behaviour e ≡ end = ap (λ (r : List ℕ). octet r 0) (sym (l .same)) ∙ c .before .before .before .before .if1 .taken in
     answered-as _ _ _ _ _ (ap (settle room) (at-end t e p b)) (c .before .before .at-waypoint .ensures)
 
--- src/calls.rt:46:54
 shared-slice-read-wide : tie.Need-shared-slice-read-wide
 shared-slice-read-wide c = search needs
 
--- src/calls.rt:46:41
 wide-requires : tie.Need-wide-requires
 wide-requires c κs = search needs
 
--- src/calls.rt:46:13
 policy-at-requires : tie.Need-policy-at-requires
 policy-at-requires c κs =
     let s = c .before .before .before .before .before .before .before .before .before in
@@ -90,7 +68,6 @@ policy-at-requires c κs =
     let k = c .wide .ensures .0 ∙ ap (λ (r : List ℕ). octet r 5) (l .same) in
     rw k (policy-d-within t (s .pre .0) to (a .i) (s .pre .1) b)
 
--- src/calls.rt:47:9
 at-d-requires : tie.Need-at-d-requires
 at-d-requires c κs =
     let s = c .before .before .before .before .before .before .before .before .before .before .before in
@@ -108,11 +85,9 @@ at-d-requires c κs =
     let z = y .same ∙ ap (policyAt t) k in
     (l .long, y .long, rw z (q .least), rw z (q .most), rw z (q .start), s .pre .2)
 
--- src/calls.rt:47:9
 same-length-2 : tie.Need-same-length-2
 same-length-2 c = search needs
 
--- src/calls.rt:47:9
 returns-2 : tie.Need-returns-2
 returns-2 c =
     let s = c .before .before .before .before .before .before .before .before .before .before .before .before .before .before in
@@ -128,15 +103,12 @@ returns-2 c =
     let z = c .before .before .before .before .policy-at .ensures .same ∙ ap (policyAt t) k in
     answered-as _ _ _ _ _ ((λ i. settle room (atD (l .same i) (z i) p)) ∙ ap (settle room) (at-d-entry t e p b)) (c .before .before .at-d .ensures)
 
--- src/calls.rt:50:54
 shared-slice-read-wide-2 : tie.Need-shared-slice-read-wide-2
 shared-slice-read-wide-2 c = search needs
 
--- src/calls.rt:50:41
 wide-requires-2 : tie.Need-wide-requires-2
 wide-requires-2 c κs = search needs
 
--- src/calls.rt:50:13
 policy-at-requires-2 : tie.Need-policy-at-requires-2
 policy-at-requires-2 c κs =
     let s = c .before .before .before .before .before .before .before .before .before .before in
@@ -151,7 +123,6 @@ policy-at-requires-2 c κs =
     let k = c .wide2 .ensures .0 ∙ ap (λ (r : List ℕ). octet r 5) (l .same) in
     rw k (policy-di-within t (s .pre .0) to (a .i) (s .pre .1) b)
 
--- src/calls.rt:51:9
 at-di-requires : tie.Need-at-di-requires
 at-di-requires c κs =
     let s = c .before .before .before .before .before .before .before .before .before .before .before .before in
@@ -169,11 +140,9 @@ at-di-requires c κs =
     let z = y .same ∙ ap (policyAt t) k in
     (l .long, y .long, rw z (q .least), rw z (q .most), rw z (q .start), s .pre .2)
 
--- src/calls.rt:51:9
 same-length-3 : tie.Need-same-length-3
 same-length-3 c = search needs
 
--- src/calls.rt:51:9
 returns-3 : tie.Need-returns-3
 returns-3 c =
     let s = c .before .before .before .before .before .before .before .before .before .before .before .before .before .before .before in
@@ -189,7 +158,6 @@ returns-3 c =
     let z = c .before .before .before .before .policy-at2 .ensures .same ∙ ap (policyAt t) k in
     answered-as _ _ _ _ _ ((λ i. settle room (atDi (l .same i) (z i) p)) ∙ ap (settle room) (at-di-entry t e p b)) (c .before .before .at-di .ensures)
 
--- src/calls.rt:54:9
 at-e6-requires : tie.Need-at-e6-requires
 at-e6-requires c κs =
     let s = c .before .before .before .before .before .before .before .before .before .before in
@@ -204,11 +172,9 @@ at-e6-requires c κs =
     let q = found-e6 entryLimit t to (a .i) (s .pre .0) (s .pre .1) b in
     (l .long, rw (l .same) (direction-below _ (q .direction)), s .pre .2)
 
--- src/calls.rt:54:9
 same-length-4 : tie.Need-same-length-4
 same-length-4 c = search needs
 
--- src/calls.rt:54:9
 returns-4 : tie.Need-returns-4
 returns-4 c =
     let s = c .before .before .before .before .before .before .before .before .before .before .before .before .before in
@@ -222,7 +188,6 @@ returns-4 c =
     let b : Entry.behaviour e ≡ endMGtp6E = ap (λ (r : List ℕ). octet r 0) (sym (l .same)) ∙ c .before .before .before .before .if4 .taken in
     answered-as _ _ _ _ _ (ap (λ (r : List ℕ). settle room (atE6 r p)) (l .same) ∙ ap (settle room) (at-e6-entry t e p b)) (c .before .before .at-e6 .ensures)
 
--- src/calls.rt:56:5
 at-e4-requires : tie.Need-at-e4-requires
 at-e4-requires c κs =
     let s = c .before .before .before .before .before .before .before .before .before .before in
@@ -237,11 +202,9 @@ at-e4-requires c κs =
     let q = found-e4 entryLimit t to (a .i) (s .pre .0) (s .pre .1) b in
     (l .long, rw (l .same) (direction-below _ (q .direction)), rw (l .same) (q .p), s .pre .2)
 
--- src/calls.rt:36:1
 same-length-5 : tie.Need-same-length-5
 same-length-5 c = search needs
 
--- src/calls.rt:36:1
 returns-5 : tie.Need-returns-5
 returns-5 c =
     let s = c .before .before .before .before .before .before .before .before .before .before .before .before .before in

@@ -3,41 +3,27 @@ use Rattle.rules.proofs.Tables.{found-rule}
 use Rattle.rules.specs.declared.Found.{Found}
 use Rattle.rules.specs.Calls.{atFoundRule}
 use Rattle.rules.specs.D4.{atD4}
-use Rattle.rules.specs.Rule as Rule
 use Rattle.rules.specs.Ipv4 as Ipv4
-use Rattle.rules.specs.Table.{ruleAt}
 use Rattle.rules.specs.Sound.{entryLimit}
 use Rattle.rules.specs.Match.{matchRule}
 use Rattle.gateway.proofs.Settling.{answered-refused, answered-as}
-use Rattle.rules.specs.Answer.{Outcome, plain, settle}
-use Rattle.rules.specs.Octets.{octet, window}
+use Rattle.rules.specs.Answer.{plain, settle}
 use denote.Ref.{now}
 use lib.ListN.{length}
 use native.Mathlib.Omega.{arith}
-use Prim.Native.Nat.{ℕ, _+_, _*_, _≤_, _<_}
+use Prim.Native.Nat.{ℕ}
 use mathlib.Core.List.{List}
-use mathlib.Core.Bool.{true, false}
-use mathlib.Core.Path.{_≡_, refl, sym, ap, _∙_, subst}
+use mathlib.Core.Path.{sym, ap, _∙_}
 use borrow.Author.Needs.{needs}
 use Rattle.gateway.proofs.calls.at_match4.Statement.{statement}
 use Rattle.gateway.proofs.calls.at_match4.Tie as tie
-use Rattle.gateway.proofs.calls.at_match4.Reads as reads
-use Rattle.gateway.proofs.calls.at_match4.Lts as lts
-use Rattle.gateway.proofs.answer.Answer.plain.Reads as plain-reads
-use Rattle.gateway.proofs.d4.at_d4.Reads as at-d4-reads
-use Rattle.octets.proofs.window4.Reads as window4-reads
-use Rattle.table.proofs.find_rule.Reads as find-rule-reads
-use Rattle.table.proofs.rule_at.Reads as rule-at-reads
 
--- src/calls.rt:92:23
 window4-requires : tie.Need-window4-requires
 window4-requires c κs = search needs
 
--- src/calls.rt:93:41
 slice-aggregate-find-rule : tie.Need-slice-aggregate-find-rule
 slice-aggregate-find-rule c = search needs
 
--- src/calls.rt:93:9
 find-rule-requires : tie.Need-find-rule-requires
 find-rule-requires c κs =
     let s = c .before .before .before .before .before in
@@ -46,19 +32,15 @@ find-rule-requires c κs =
     let t : List ℕ = now (a .table) in
     (rules-within t (s .pre .0), omega (arith, c .before))
 
--- src/calls.rt:95:34
 enum-told : tie.Need-enum-told
 enum-told c = search needs
 
--- src/calls.rt:95:34
 plain-requires : tie.Need-plain-requires
 plain-requires c κs = search needs
 
--- src/calls.rt:96:26
 enum-known-found : tie.Need-enum-known-found
 enum-known-found c = search needs
 
--- src/calls.rt:97:17
 rule-at-requires : tie.Need-rule-at-requires
 rule-at-requires c κs =
     let s = c .before .before .before .before .before .before .before .before .before in
@@ -68,7 +50,6 @@ rule-at-requires c κs =
     let m = sym (c .before .before .before .find-rule .ensures ∙ ap (matchRule t) (c .before .before .before .before .before .window4 .ensures)) in
     found-rule-within t (s .pre .0) (Ipv4.destination p) _ (m ∙ c .before .found .given .1)
 
--- src/calls.rt:98:13
 at-d4-requires : tie.Need-at-d4-requires
 at-d4-requires c κs =
     let s = c .before .before .before .before .before .before .before .before .before .before .before in
@@ -80,7 +61,6 @@ at-d4-requires c κs =
     let q = found-rule entryLimit t (Ipv4.destination p) _ (s .pre .0) (m ∙ c .before .before .before .found .given .1) in
     (l .long, rw (l .same) (q .p), rw (l .same) (q .q), rw (l .same) (q .waypoints), s .pre .1)
 
--- src/calls.rt:88:1
 returns : tie.Need-returns
 unfolding atFoundRule settle
 returns c =
@@ -91,11 +71,9 @@ returns c =
     let m = sym (c .before .before .before .find-rule .ensures ∙ ap (matchRule t) (c .before .before .before .before .before .window4 .ensures)) in
     answered-refused _ (plain 4) _ _ (ap (λ (f : Found). settle (length (now (a .out))) (atFoundRule t p f)) (m ∙ c .before .enum-told .given .1)) (c .plain .ensures)
 
--- src/calls.rt:88:1
 same-length : tie.Need-same-length
 same-length c = search needs
 
--- src/calls.rt:88:1
 returns-2 : tie.Need-returns-2
 unfolding atFoundRule
 returns-2 c =

@@ -4,38 +4,24 @@ use Rattle.rules.specs.D4.{header4, header4Of, malformed4, badHeader4}
 use Rattle.rules.specs.Answer.{any}
 use Rattle.rules.specs.Sound.{sound}
 use Rattle.gateway.proofs.Settling.{answered-refused, answered-as}
-use Rattle.rules.specs.Answer.{Outcome, plain, settle}
-use Rattle.rules.specs.Octets.{octet, window}
-use borrow.Author.Tests.{eq-eqb, ne-eqb, not-true, not-false}
+use Rattle.rules.specs.Answer.{plain}
+use borrow.Author.Tests.{not-true, not-false}
 use denote.Ref.{now}
 use lib.ListN.{length}
 use native.Mathlib.Omega.{arith}
-use Prim.Native.Nat.{ℕ, _+_, _*_, _≤_, _<_}
+use Prim.Native.Nat.{ℕ}
 use mathlib.Core.List.{List}
-use mathlib.Core.Bool.{true, false}
-use mathlib.Core.Path.{_≡_, refl, sym, ap, _∙_}
+use mathlib.Core.Path.{sym, ap, _∙_}
 use borrow.Author.Needs.{needs}
 use Rattle.gateway.proofs.calls.translate_ipv4.Statement.{statement}
 use Rattle.gateway.proofs.calls.translate_ipv4.Tie as tie
-use Rattle.gateway.proofs.calls.translate_ipv4.Reads as reads
-use Rattle.gateway.proofs.calls.translate_ipv4.Lts as lts
-use Rattle.gateway.proofs.answer.Answer.plain.Reads as plain-reads
-use Rattle.gateway.proofs.calls.at_match4.Reads as at-match4-reads
-use Rattle.ip.proofs.bad_header4.Reads as bad-header4-reads
-use Rattle.ip.proofs.header4_of.Reads as header4-of-reads
-use Rattle.ip.proofs.is_malformed4.Reads as is-malformed4-reads
-use Rattle.octets.proofs.window20.Reads as window20-reads
-use Rattle.table.proofs.sound.Reads as sound-reads
 
--- src/calls.rt:107:9
 sound-requires : tie.Need-sound-requires
 sound-requires c κs = search needs
 
--- src/calls.rt:108:9
 plain-requires : tie.Need-plain-requires
 plain-requires c κs = search needs
 
--- src/calls.rt:108:9
 returns : tie.Need-returns
 returns c =
     let s = c .before .before .before .before .before .before in
@@ -45,23 +31,18 @@ returns c =
     let room = length (now (a .out)) in
     answered-refused _ (plain 1) _ _ (unsound4 p t room (sym (c .before .before .sound .ensures) ∙ not-true _ (c .before .if1 .taken))) (c .plain .ensures)
 
--- src/calls.rt:110:28
 window20-requires : tie.Need-window20-requires
 window20-requires c κs = search needs
 
--- src/calls.rt:110:9
 header4-of-requires : tie.Need-header4-of-requires
 header4-of-requires c κs = search needs
 
--- src/calls.rt:111:8
 is-malformed4-requires : tie.Need-is-malformed4-requires
 is-malformed4-requires c κs = search needs
 
--- src/calls.rt:112:9
 plain-requires-2 : tie.Need-plain-requires-2
 plain-requires-2 c κs = search needs
 
--- src/calls.rt:112:9
 returns-2 : tie.Need-returns-2
 unfolding header4
 returns-2 c =
@@ -73,15 +54,12 @@ returns-2 c =
     let v = c .before .before .before .header4-of .ensures ∙ ap (λ (f : List ℕ). header4Of f (length p)) (c .before .before .before .before .window20 .ensures) ∙ header4-front p (length p) in
     answered-refused _ (plain 2) _ _ (malformed-4 p t room (sym (c .before .before .before .before .before .before .sound .ensures) ∙ not-false _ (c .before .before .before .before .before .if1 .left)) (ap (λ (h : Header4). any (malformed4 h)) (sym v) ∙ sym (c .before .before .is-malformed4 .ensures) ∙ c .before .if2 .taken)) (c .plain2 .ensures)
 
--- src/calls.rt:114:8
 bad-header4-requires : tie.Need-bad-header4-requires
 bad-header4-requires c κs = search needs
 
--- src/calls.rt:115:9
 plain-requires-3 : tie.Need-plain-requires-3
 plain-requires-3 c κs = search needs
 
--- src/calls.rt:115:9
 returns-3 : tie.Need-returns-3
 unfolding header4
 returns-3 c =
@@ -93,7 +71,6 @@ returns-3 c =
     let v = c .before .before .before .before .before .header4-of .ensures ∙ ap (λ (f : List ℕ). header4Of f (length p)) (c .before .before .before .before .before .before .window20 .ensures) ∙ header4-front p (length p) in
     answered-refused _ (plain 3) _ _ (bad-4 p t room (sym (c .before .before .before .before .before .before .before .before .sound .ensures) ∙ not-false _ (c .before .before .before .before .before .before .before .if1 .left)) (ap (λ (h : Header4). any (malformed4 h)) (sym v) ∙ sym (c .before .before .before .before .is-malformed4 .ensures) ∙ c .before .before .before .if2 .left) (ap (λ (h : Header4). any (badHeader4 h)) (sym v) ∙ sym (c .before .before .bad-header4 .ensures) ∙ c .before .if3 .taken)) (c .plain3 .ensures)
 
--- src/calls.rt:117:5
 at-match4-requires : tie.Need-at-match4-requires
 unfolding header4
 at-match4-requires c κs =
@@ -105,11 +82,9 @@ at-match4-requires c κs =
     let v = c .before .before .before .before .before .header4-of .ensures ∙ ap (λ (f : List ℕ). header4Of f (length p)) (c .before .before .before .before .before .before .window20 .ensures) ∙ header4-front p (length p) in
     ((sym (c .before .before .before .before .before .before .before .before .sound .ensures) ∙ not-false _ (c .before .before .before .before .before .before .before .if1 .left)), sight4-of p _ v (sym (c .before .before .before .before .is-malformed4 .ensures) ∙ c .before .before .before .if2 .left) (omega (arith, c .before .before .before .before .before)))
 
--- src/calls.rt:104:1
 same-length : tie.Need-same-length
 same-length c = search needs
 
--- src/calls.rt:104:1
 returns-4 : tie.Need-returns-4
 unfolding header4
 returns-4 c =

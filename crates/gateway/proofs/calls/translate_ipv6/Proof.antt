@@ -4,37 +4,24 @@ use Rattle.rules.specs.Header.{header, headerOf, malformed}
 use Rattle.rules.specs.Answer.{any}
 use Rattle.rules.specs.Sound.{sound}
 use Rattle.gateway.proofs.Settling.{answered-refused, answered-as}
-use Rattle.rules.specs.Answer.{Outcome, plain, settle}
-use Rattle.rules.specs.Octets.{octet, window}
-use borrow.Author.Tests.{eq-eqb, ne-eqb, not-true, not-false}
+use Rattle.rules.specs.Answer.{plain}
+use borrow.Author.Tests.{not-true, not-false}
 use denote.Ref.{now}
 use lib.ListN.{length}
 use native.Mathlib.Omega.{arith}
-use Prim.Native.Nat.{ℕ, _+_, _*_, _≤_, _<_}
+use Prim.Native.Nat.{ℕ}
 use mathlib.Core.List.{List}
-use mathlib.Core.Bool.{true, false}
-use mathlib.Core.Path.{_≡_, refl, sym, ap, _∙_}
+use mathlib.Core.Path.{sym, ap, _∙_}
 use borrow.Author.Needs.{needs}
 use Rattle.gateway.proofs.calls.translate_ipv6.Statement.{statement}
 use Rattle.gateway.proofs.calls.translate_ipv6.Tie as tie
-use Rattle.gateway.proofs.calls.translate_ipv6.Reads as reads
-use Rattle.gateway.proofs.calls.translate_ipv6.Lts as lts
-use Rattle.gateway.proofs.answer.Answer.plain.Reads as plain-reads
-use Rattle.gateway.proofs.calls.at_match.Reads as at-match-reads
-use Rattle.ip.proofs.header_of.Reads as header-of-reads
-use Rattle.ip.proofs.is_malformed.Reads as is-malformed-reads
-use Rattle.octets.proofs.window48.Reads as window48-reads
-use Rattle.table.proofs.sound.Reads as sound-reads
 
--- src/calls.rt:76:9
 sound-requires : tie.Need-sound-requires
 sound-requires c κs = search needs
 
--- src/calls.rt:77:9
 plain-requires : tie.Need-plain-requires
 plain-requires c κs = search needs
 
--- src/calls.rt:77:9
 returns : tie.Need-returns
 returns c =
     let s = c .before .before .before .before .before .before in
@@ -44,23 +31,18 @@ returns c =
     let room = length (now (a .out)) in
     answered-refused _ (plain 1) _ _ (unsound6 p t room (sym (c .before .before .sound .ensures) ∙ not-true _ (c .before .if1 .taken))) (c .plain .ensures)
 
--- src/calls.rt:79:9
 window48-requires : tie.Need-window48-requires
 window48-requires c κs = search needs
 
--- src/calls.rt:80:9
 header-of-requires : tie.Need-header-of-requires
 header-of-requires c κs = search needs
 
--- src/calls.rt:81:8
 is-malformed-requires : tie.Need-is-malformed-requires
 is-malformed-requires c κs = search needs
 
--- src/calls.rt:82:9
 plain-requires-2 : tie.Need-plain-requires-2
 plain-requires-2 c κs = search needs
 
--- src/calls.rt:82:9
 returns-2 : tie.Need-returns-2
 unfolding header
 returns-2 c =
@@ -72,7 +54,6 @@ returns-2 c =
     let v = c .before .before .before .header-of .ensures ∙ ap (λ (f : List ℕ). headerOf f (length p)) (c .before .before .before .before .window48 .ensures) ∙ header-front p (length p) in
     answered-refused _ (plain 2) _ _ (malformed6 p t room (sym (c .before .before .before .before .before .before .sound .ensures) ∙ not-false _ (c .before .before .before .before .before .if1 .left)) (ap (λ (h : Header). any (malformed h)) (sym v) ∙ sym (c .before .before .is-malformed .ensures) ∙ c .before .if2 .taken)) (c .plain2 .ensures)
 
--- src/calls.rt:84:5
 at-match-requires : tie.Need-at-match-requires
 unfolding header
 at-match-requires c κs =
@@ -84,11 +65,9 @@ at-match-requires c κs =
     let v = c .before .before .before .header-of .ensures ∙ ap (λ (f : List ℕ). headerOf f (length p)) (c .before .before .before .before .window48 .ensures) ∙ header-front p (length p) in
     (sym (c .before .before .before .before .before .before .sound .ensures) ∙ not-false _ (c .before .before .before .before .before .if1 .left), sight-of p _ v (sym (c .before .before .is-malformed .ensures) ∙ c .before .if2 .left) (omega (arith, c .before .before .before)), c .before .before .before .before .window48 .ensures)
 
--- src/calls.rt:73:1
 same-length : tie.Need-same-length
 same-length c = search needs
 
--- src/calls.rt:73:1
 returns-3 : tie.Need-returns-3
 unfolding header
 returns-3 c =

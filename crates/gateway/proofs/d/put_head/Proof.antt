@@ -1,63 +1,44 @@
-use Rattle.gateway.proofs.Paths.{first-only, first-of-more, path-one}
-use Rattle.gateway.proofs.Tunnels.{ipv6-before}
-use Rattle.gateway.specs.Heads.{pathFront, pathHead}
-use Rattle.octets.proofs.Laws.{next, run-as}
+use Rattle.gateway.proofs.Paths.{path-one}
+use Rattle.gateway.specs.Heads.{pathFront}
+use Rattle.octets.proofs.Laws.{run-as}
 use Rattle.rules.specs.Table.{addressesAt}
 use Rattle.rules.specs.Octets.{octet, window}
 use denote.Ref.{now}
-use lib.ListN.{length, getD}
+use lib.ListN.{getD}
 use native.Mathlib.Omega.{arith}
-use Prim.Native.Nat.{ℕ, _+_, _-_, _*_, _≤_, _<_}
+use Prim.Native.Nat.{ℕ, _+_, _-_}
 use mathlib.Core.List.{List, [], _∷_, _++_}
-use mathlib.Core.Path.{_≡_, refl, sym, ap, _∙_}
 use borrow.Author.Needs.{needs}
 use Rattle.gateway.proofs.d.put_head.Statement.{statement}
 use Rattle.gateway.proofs.d.put_head.Tie as tie
-use Rattle.gateway.proofs.d.put_head.Reads as reads
-use Rattle.gateway.proofs.d.put_head.Lts as lts
-use Rattle.gateway.proofs.d.first_sid.Reads as first-sid-reads
-use Rattle.gateway.proofs.path.put_front.Reads as put-front-reads
-use Rattle.octets.proofs.copy_to.Reads as copy-to-reads
-use Rattle.octets.proofs.window16.Reads as window16-reads
-use Rattle.srh.proofs.put_reversed.Reads as put-reversed-reads
 
--- src/d.rt:32:9
 first-sid-requires : tie.Need-first-sid-requires
 first-sid-requires c κs = search needs
 
--- src/d.rt:33:9
 window16-requires : tie.Need-window16-requires
 window16-requires c κs = search needs
 
--- src/d.rt:34:40
 shared-slice-read-put-front : tie.Need-shared-slice-read-put-front
 shared-slice-read-put-front c = search needs
 
--- src/d.rt:34:5
 put-front-requires : tie.Need-put-front-requires
 put-front-requires c κs = search needs
 
--- src/d.rt:35:30
 slice-aggregate-copy-to : tie.Need-slice-aggregate-copy-to
 slice-aggregate-copy-to c = search needs
 
--- src/d.rt:35:5
 copy-to-requires : tie.Need-copy-to-requires
 copy-to-requires c κs = search needs
 
--- src/d.rt:36:39
 sub-put-reversed : tie.Need-sub-put-reversed
 sub-put-reversed c = search needs
 
--- src/d.rt:36:5
 put-reversed-requires : tie.Need-put-reversed-requires
 put-reversed-requires c κs = search needs
 
--- src/d.rt:28:1
 same-length : tie.Need-same-length
 same-length c = search needs
 
--- src/d.rt:28:1
 returns : tie.Need-returns
 returns c =
     let s = c .before .before .before .before .before .before .before .before .before .before .before .before .before .before .before .before .before .before .before in

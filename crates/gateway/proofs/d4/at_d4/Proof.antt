@@ -1,81 +1,54 @@
 use Rattle.gateway.proofs.Rules4.{d4-refuses, d4-passes, d4-bounds, d4-parts}
 use Rattle.gateway.proofs.Settling.{answered-refused, answered-as}
-use Rattle.rules.specs.D4.{d4Packet, atD4}
 use denote.Ref.{now}
 use lib.ListN.{length}
 use native.Mathlib.Omega.{arith}
-use Prim.Native.Nat.{ℕ, _+_, _≤_, _<_}
+use Prim.Native.Nat.{ℕ, _+_}
 use mathlib.Core.List.{List}
-use mathlib.Core.Path.{_≡_, refl, sym, ap, _∙_}
+use mathlib.Core.Path.{sym, ap}
 use borrow.Author.Needs.{needs}
 use Rattle.gateway.proofs.d4.at_d4.Statement.{statement}
 use Rattle.gateway.proofs.d4.at_d4.Tie as tie
-use Rattle.gateway.proofs.d4.at_d4.Reads as reads
-use Rattle.gateway.proofs.d4.at_d4.Lts as lts
-use Rattle.gateway.proofs.answer.Answer.refused.Reads as refused-reads
-use Rattle.gateway.proofs.d4.judge.Reads as judge-reads
-use Rattle.gateway.proofs.d4.payload.Reads as payload-reads
-use Rattle.gateway.proofs.d4.send.Reads as send-reads
-use Rattle.gtpu.proofs.args_at.Reads as args-at-reads
-use Rattle.gtpu.proofs.datagram_at.Reads as datagram-at-reads
-use Rattle.gtpu.proofs.inner_at.Reads as inner-at-reads
-use Rattle.octets.proofs.less.Reads as less-reads
-use Rattle.octets.proofs.octet_or_0.Reads as octet-or-0-reads
-use Rattle.octets.proofs.wide.Reads as wide-reads
 
--- src/d4.rt:131:26
 shared-slice-read-wide : tie.Need-shared-slice-read-wide
 shared-slice-read-wide c = search needs
 
--- src/d4.rt:131:9
 wide-requires : tie.Need-wide-requires
 wide-requires c κs = search needs
 
--- src/d4.rt:132:9
 datagram-at-requires : tie.Need-datagram-at-requires
 datagram-at-requires c κs = search needs
 
--- src/d4.rt:133:22
 inner-at-requires : tie.Need-inner-at-requires
 inner-at-requires c κs = search needs
 
--- src/d4.rt:133:17
 add-place : tie.Need-add-place
 add-place c = search needs
 
--- src/d4.rt:134:9
 less-requires : tie.Need-less-requires
 less-requires c κs = search needs
 
--- src/d4.rt:135:34
 octet-or-0-requires : tie.Need-octet-or-0-requires
 octet-or-0-requires c κs = search needs
 
--- src/d4.rt:135:69
 payload-requires : tie.Need-payload-requires
 payload-requires c κs = search needs
 
--- src/d4.rt:135:9
 judge-requires : tie.Need-judge-requires
 judge-requires c κs = search needs
 
--- src/d4.rt:137:32
 enum-known-v : tie.Need-enum-known-v
 enum-known-v c = search needs
 
--- src/d4.rt:137:38
 refused-requires : tie.Need-refused-requires
 refused-requires c κs = search needs
 
--- src/d4.rt:139:17
 enum-told : tie.Need-enum-told
 enum-told c = search needs
 
--- src/d4.rt:139:17
 args-at-requires : tie.Need-args-at-requires
 args-at-requires c κs = search needs
 
--- src/d4.rt:140:13
 send-requires : tie.Need-send-requires
 send-requires c κs =
     let s = c .before .before .before .before .before .before .before .before .before .before .before .before .before .before .before in
@@ -88,7 +61,6 @@ send-requires c κs =
     let l = c .before .before .before .before .before .before .before .less .ensures in
     (s .pre .0, s .pre .1, s .pre .2, w, omega (arith, s, w), rw (← l, ← f) (omega (arith, b .1)), d4-parts r p (a .h) (s .pre .4) (length (now (a .out))) _ _ _ _ _ _ _ (c .before .before .before .before .before .before .before .before .before .datagram-at .ensures) (ap (λ (j : ℕ). 20 + j) (c .before .before .before .before .before .before .before .before .inner-at .ensures .0)) (c .before .before .before .before .before .before .before .less .ensures) (c .before .before .before .before .before .before .octet-or-0 .ensures) (c .before .before .before .before .before .before .before .before .before .before .wide .ensures .0) (c .before .before .before .before .before .payload .ensures) (c .before .before .before .before .judge .ensures) (c .before .before .enum-told .given .1) _ (c .before .args-at .ensures))
 
--- src/d4.rt:127:1
 returns : tie.Need-returns
 returns c =
     let s = c .before .before .before .before .before .before .before .before .before .before .before .before .before .before .before in
@@ -97,11 +69,9 @@ returns c =
     let r : List ℕ = now (a .r) in
     answered-refused _ _ _ _ (d4-refuses r p (a .h) (s .pre .4) (length (now (a .out))) _ _ _ _ _ _ _ (c .before .before .before .before .before .before .before .before .before .datagram-at .ensures) (ap (λ (j : ℕ). 20 + j) (c .before .before .before .before .before .before .before .before .inner-at .ensures .0)) (c .before .before .before .before .before .before .before .less .ensures) (c .before .before .before .before .before .before .octet-or-0 .ensures) (c .before .before .before .before .before .before .before .before .before .before .wide .ensures .0) (c .before .before .before .before .before .payload .ensures) (c .before .before .before .before .judge .ensures) _ (c .before .before .v .given .1)) (c .refused .ensures)
 
--- src/d4.rt:127:1
 same-length : tie.Need-same-length
 same-length c = search needs
 
--- src/d4.rt:127:1
 returns-2 : tie.Need-returns-2
 returns-2 c =
     let s = c .before .before .before .before .before .before .before .before .before .before .before .before .before .before .before .before .before .before in

@@ -9,47 +9,34 @@ use native.Mathlib.Omega.{arith}
 use borrow.Author.Needs.{needs}
 use Rattle.gateway.proofs.d4.behind.Statement.{statement}
 use Rattle.gateway.proofs.d4.behind.Tie as tie
-use Rattle.gateway.proofs.d4.behind.Reads as reads
-use Rattle.gateway.proofs.d4.behind.Lts as lts
-use Rattle.octets.proofs.copy_to.Reads as copy-to-reads
 
--- src/d4.rt:63:15
 add-end : tie.Need-add-end
 add-end c = search needs
 
--- src/d4.rt:64:21
 slice-aggregate-copy-to : tie.Need-slice-aggregate-copy-to
 slice-aggregate-copy-to c = search needs
 
--- src/d4.rt:64:32
 sub-copy-to : tie.Need-sub-copy-to
 sub-copy-to c = search needs
 
--- src/d4.rt:64:32
 part-copy-to-start : tie.Need-part-copy-to-start
 part-copy-to-start c = search needs
 
--- src/d4.rt:64:32
 part-copy-to-end : tie.Need-part-copy-to-end
 part-copy-to-end c = search needs
 
--- src/d4.rt:64:5
 copy-to-requires : tie.Need-copy-to-requires
 copy-to-requires c κs = search needs
 
--- src/d4.rt:65:21
 slice-aggregate-copy-to-2 : tie.Need-slice-aggregate-copy-to-2
 slice-aggregate-copy-to-2 c = search needs
 
--- src/d4.rt:65:32
 slice-aggregate-copy-to-3 : tie.Need-slice-aggregate-copy-to-3
 slice-aggregate-copy-to-3 c = search needs
 
--- src/d4.rt:65:5
 copy-to-requires-2 : tie.Need-copy-to-requires-2
 copy-to-requires-2 c κs = search needs
 
--- src/d4.rt:58:1
 returns : tie.Need-returns
 returns c =
     let s = c .before .before .before .before .before .before .before .before .before in

@@ -2,26 +2,19 @@ use borrow.Author.Tests.{ne-eqb}
 use borrow.Author.Needs.{needs}
 use Rattle.gateway.proofs.d4.payload.Statement.{statement}
 use Rattle.gateway.proofs.d4.payload.Tie as tie
-use Rattle.gateway.proofs.d4.payload.Reads as reads
-use Rattle.gateway.proofs.d4.payload.Lts as lts
 
--- src/d4.rt:84:36
 mul-result : tie.Need-mul-result
 mul-result c = search needs
 
--- src/d4.rt:84:31
 add-result : tie.Need-add-result
 add-result c = search needs
 
--- src/d4.rt:84:31
 add-result-2 : tie.Need-add-result-2
 add-result-2 c = search needs
 
--- src/d4.rt:80:1
 returns : tie.Need-returns
 returns c = rw (c .if1 .taken)
 
--- src/d4.rt:80:1
 returns-2 : tie.Need-returns-2
 returns-2 c = rw (ne-eqb _ 0 (c .if1 .left))
 

@@ -1,57 +1,40 @@
 use Rattle.gateway.proofs.Rules4.{head-past}
-use Rattle.gateway.specs.Heads.{pathFront, pathHead}
+use Rattle.gateway.specs.Heads.{pathFront}
 use Rattle.octets.proofs.Laws.{run-as}
-use Rattle.rules.specs.Table.{addressesAt}
-use Rattle.rules.specs.Octets.{octet, window}
+use Rattle.rules.specs.Octets.{octet}
 use denote.Ref.{now}
-use lib.ListN.{length, getD}
 use native.Mathlib.Omega.{arith}
-use Prim.Native.Nat.{ℕ, _+_, _-_, _*_, _≤_, _<_}
-use mathlib.Core.List.{List, [], _∷_, _++_}
-use mathlib.Core.Path.{_≡_, refl, sym, ap, _∙_}
+use Prim.Native.Nat.{ℕ, _+_, _-_}
+use mathlib.Core.List.{List}
+use mathlib.Core.Path.{ap}
 use borrow.Author.Needs.{needs}
 use Rattle.gateway.proofs.d4.put_past.Statement.{statement}
 use Rattle.gateway.proofs.d4.put_past.Tie as tie
-use Rattle.gateway.proofs.d4.put_past.Reads as reads
-use Rattle.gateway.proofs.d4.put_past.Lts as lts
-use Rattle.gateway.proofs.path.put_front.Reads as put-front-reads
-use Rattle.octets.proofs.copy_to.Reads as copy-to-reads
-use Rattle.octets.proofs.window16.Reads as window16-reads
-use Rattle.srh.proofs.put_reversed.Reads as put-reversed-reads
 
--- src/d4.rt:92:9
 window16-requires : tie.Need-window16-requires
 window16-requires c κs = search needs
 
--- src/d4.rt:93:40
 shared-slice-read-put-front : tie.Need-shared-slice-read-put-front
 shared-slice-read-put-front c = search needs
 
--- src/d4.rt:93:61
 add-put-front : tie.Need-add-put-front
 add-put-front c = search needs
 
--- src/d4.rt:93:5
 put-front-requires : tie.Need-put-front-requires
 put-front-requires c κs = search needs
 
--- src/d4.rt:94:30
 slice-aggregate-copy-to : tie.Need-slice-aggregate-copy-to
 slice-aggregate-copy-to c = search needs
 
--- src/d4.rt:94:5
 copy-to-requires : tie.Need-copy-to-requires
 copy-to-requires c κs = search needs
 
--- src/d4.rt:95:5
 put-reversed-requires : tie.Need-put-reversed-requires
 put-reversed-requires c κs = search needs
 
--- src/d4.rt:88:1
 same-length : tie.Need-same-length
 same-length c = search needs
 
--- src/d4.rt:88:1
 returns : tie.Need-returns
 returns c =
     let s = c .before .before .before .before .before .before .before .before .before .before .before .before .before .before .before .before .before in

@@ -3,84 +3,58 @@ use Rattle.gateway.proofs.Rules4.{d4-plain, d4-past}
 use Rattle.gateway.proofs.Settling.{answered-as}
 use Rattle.args.specs.Value.{value}
 use Rattle.rules.specs.Answer.{settle, Sent}
-use Rattle.rules.specs.Carried.{carried4}
-use Rattle.rules.specs.D4.{addressBehind, d4Packet}
+use Rattle.rules.specs.D4.{addressBehind}
 use Rattle.rules.specs.Session.{innerProtocol}
-use Rattle.rules.specs.Table.{addressesAt}
 use Rattle.rules.specs.Octets.{octet, window}
 use denote.Ref.{now}
-use lib.ListN.{length, getD}
+use lib.ListN.{length}
 use native.Mathlib.Omega.{arith}
-use Prim.Native.Nat.{ℕ, _+_, _-_, _*_, _≤_, _<_}
-use mathlib.Core.List.{List, [], _∷_, _++_}
-use mathlib.Core.Path.{_≡_, refl, sym, ap, _∙_}
+use Prim.Native.Nat.{ℕ, _-_}
+use mathlib.Core.List.{List, [], _∷_}
+use mathlib.Core.Path.{ap, _∙_}
 use borrow.Author.Needs.{needs}
 use Rattle.gateway.proofs.d4.send.Statement.{statement}
 use Rattle.gateway.proofs.d4.send.Tie as tie
-use Rattle.gateway.proofs.d4.send.Reads as reads
-use Rattle.gateway.proofs.d4.send.Lts as lts
-use Rattle.gateway.proofs.d4.behind.Reads as behind-reads
-use Rattle.gateway.proofs.d4.send_past.Reads as send-past-reads
-use Rattle.gateway.proofs.d4.send_plain.Reads as send-plain-reads
-use Rattle.gateway.proofs.d4.sid_of.Reads as sid-of-reads
-use Rattle.gateway.proofs.session.inner_next.Reads as inner-next-reads
-use Rattle.octets.proofs.octet_or_0.Reads as octet-or-0-reads
-use Rattle.octets.proofs.wide.Reads as wide-reads
-use Rattle.octets.proofs.window4.Reads as window4-reads
 
--- src/d4.rt:150:37
 shared-slice-read-inner-next : tie.Need-shared-slice-read-inner-next
 shared-slice-read-inner-next c = search needs
 
--- src/d4.rt:150:43
 octet-or-0-requires : tie.Need-octet-or-0-requires
 octet-or-0-requires c κs = search needs
 
--- src/d4.rt:150:9
 inner-next-requires : tie.Need-inner-next-requires
 inner-next-requires c κs = search needs
 
--- src/d4.rt:151:9
 window4-requires : tie.Need-window4-requires
 window4-requires c κs = search needs
 
--- src/d4.rt:152:9
 window4-requires-2 : tie.Need-window4-requires-2
 window4-requires-2 c κs = search needs
 
--- src/d4.rt:153:45
 shared-slice-read-wide : tie.Need-shared-slice-read-wide
 shared-slice-read-wide c = search needs
 
--- src/d4.rt:153:32
 wide-requires : tie.Need-wide-requires
 wide-requires c κs = search needs
 
--- src/d4.rt:153:9
 behind-requires : tie.Need-behind-requires
 behind-requires c κs = search needs
 
--- src/d4.rt:154:9
 sid-of-requires : tie.Need-sid-of-requires
 sid-of-requires c κs = search needs
 
--- src/d4.rt:155:9
 octet-or-0-requires-2 : tie.Need-octet-or-0-requires-2
 octet-or-0-requires-2 c κs = search needs
 
--- src/d4.rt:157:27
 shared-slice-read-send-plain : tie.Need-shared-slice-read-send-plain
 shared-slice-read-send-plain c = search needs
 
--- src/d4.rt:157:9
 send-plain-requires : tie.Need-send-plain-requires
 send-plain-requires c κs = let s = c .before .before .before .before .before .before .before .before .before .before .before .before .before .before .before .before in let q = rw (eq-eqb _ 0 (c .before .before .if1 .taken)) at (s .pre .5) in (q, s .pre .6 .within)
 
--- src/d4.rt:157:9
 same-length : tie.Need-same-length
 same-length c = search needs
 
--- src/d4.rt:157:9
 returns : tie.Need-returns
 returns c =
     let s = c .before .before .before .before .before .before .before .before .before .before .before .before .before .before .before .before .before .before .before in
@@ -91,15 +65,12 @@ returns c =
     let m = c .before .before .before .before .before .before .octet-or-02 .ensures in
     answered-as _ _ _ _ _ (ap (λ (x : List ℕ). settle room (Sent x)) (d4-plain r p _ (value (a .args)) (a .place) (a .w) (rw m (s .pre .6)) (s .pre .3) _ _ _ _ _ (c .before .before .before .before .before .before .before .before .before .before .before .before .before .inner-next .ensures ∙ ap (λ (k : ℕ). innerProtocol (octet r 3) (k ∷ [])) (c .before .before .before .before .before .before .before .before .before .before .before .before .before .before .octet-or-0 .ensures)) (c .before .before .before .before .before .before .before .before .before .before .before .before .window4 .ensures) (c .before .before .before .before .before .before .before .before .before .before .before .window42 .ensures) (c .before .before .before .before .before .before .before .before .behind .ensures ∙ ap (λ (k : ℕ). addressBehind (window r 32 16) k (c .before .before .before .before .before .before .before .before .before .before .before .before .window4 .result)) (c .before .before .before .before .before .before .before .before .before .wide .ensures .0)) (c .before .before .before .before .before .before .before .sid-of .ensures) (c .before .before .before .before .before .if1 .taken))) (c .before .before .send-plain .ensures)
 
--- src/d4.rt:159:5
 send-past-requires : tie.Need-send-past-requires
 send-past-requires c κs = let s = c .before .before .before .before .before .before .before .before .before .before .before .before .before .before .before in let q = rw (ne-eqb _ 0 (c .before .if1 .left)) at (s .pre .5) in (s .pre .0, omega (arith, c .before .if1 .left), s .pre .4, q, s .pre .6 .within)
 
--- src/d4.rt:146:1
 same-length-2 : tie.Need-same-length-2
 same-length-2 c = search needs
 
--- src/d4.rt:146:1
 returns-2 : tie.Need-returns-2
 returns-2 c =
     let s = c .before .before .before .before .before .before .before .before .before .before .before .before .before .before .before .before .before .before in

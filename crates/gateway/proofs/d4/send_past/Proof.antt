@@ -1,47 +1,35 @@
 use Rattle.gateway.proofs.Rules4.{past-size, past-done}
-use Rattle.gateway.proofs.Settling.{answered-refused, answered-sent, answered-as, room-short, room-enough}
+use Rattle.gateway.proofs.Settling.{answered-refused, answered-sent, room-short, room-enough}
 use Rattle.rules.specs.Answer.{plain, overlay}
 use Rattle.rules.specs.Srv6.{srv6}
 use Rattle.rules.specs.Table.{addressesAt}
 use lib.ListN.{drop, length-drop}
-use Rattle.rules.specs.Octets.{octet, window}
+use Rattle.rules.specs.Octets.{octet}
 use denote.Ref.{now}
-use lib.ListN.{length, getD}
+use lib.ListN.{length}
 use native.Mathlib.Omega.{arith}
-use Prim.Native.Nat.{ℕ, _+_, _-_, _*_, _≤_, _<_}
+use Prim.Native.Nat.{ℕ, _+_, _-_, _*_}
 use mathlib.Core.List.{List, [], _∷_, _++_}
-use mathlib.Core.Path.{_≡_, refl, sym, ap, _∙_}
+use mathlib.Core.Path.{sym, ap, _∙_}
 use borrow.Author.Needs.{needs}
 use Rattle.gateway.proofs.d4.send_past.Statement.{statement}
 use Rattle.gateway.proofs.d4.send_past.Tie as tie
-use Rattle.gateway.proofs.d4.send_past.Reads as reads
-use Rattle.gateway.proofs.d4.send_past.Lts as lts
-use Rattle.gateway.proofs.answer.Answer.plain.Reads as plain-reads
-use Rattle.gateway.proofs.answer.Answer.sent.Reads as sent-reads
-use Rattle.gateway.proofs.d4.put_past.Reads as put-past-reads
-use Rattle.octets.proofs.copy_part.Reads as copy-part-reads
 
--- src/d4.rt:103:16
 sub-size : tie.Need-sub-size
 sub-size c = search needs
 
--- src/d4.rt:104:25
 mul-if1 : tie.Need-mul-if1
 mul-if1 c = search needs
 
--- src/d4.rt:104:20
 add-if1 : tie.Need-add-if1
 add-if1 c = search needs
 
--- src/d4.rt:104:20
 add-if1-2 : tie.Need-add-if1-2
 add-if1-2 c = search needs
 
--- src/d4.rt:105:9
 plain-requires : tie.Need-plain-requires
 plain-requires c κs = search needs
 
--- src/d4.rt:105:9
 returns : tie.Need-returns
 returns c =
     let s = c .before .before .before .before .before in
@@ -51,43 +39,33 @@ returns c =
     let l = past-size (a .class) (a .upper) (octet r 1) (a .source) r (a .w) (a .sid) (drop (a .place) p) (omega (arith, s)) (omega (arith, s)) ∙ ap (λ (k : ℕ). 64 + 16 * a .w + k) (length-drop (a .place) p) in
     answered-refused _ (plain 16) _ _ (room-short (length (now (a .out))) (srv6 (a .class) (a .upper) (octet r 1) (a .source) (addressesAt r 48 (a .w) ++ a .sid ∷ []) (drop (a .place) p)) (rw l (c .before .if1 .taken))) (c .plain .ensures)
 
--- src/d4.rt:107:5
 put-past-requires : tie.Need-put-past-requires
 put-past-requires c κs = search needs
 
--- src/d4.rt:108:33
 mul-copy-part : tie.Need-mul-copy-part
 mul-copy-part c = search needs
 
--- src/d4.rt:108:28
 add-copy-part : tie.Need-add-copy-part
 add-copy-part c = search needs
 
--- src/d4.rt:108:5
 copy-part-requires : tie.Need-copy-part-requires
 copy-part-requires c κs = search needs
 
--- src/d4.rt:109:23
 mul-sent : tie.Need-mul-sent
 mul-sent c = search needs
 
--- src/d4.rt:109:18
 add-sent : tie.Need-add-sent
 add-sent c = search needs
 
--- src/d4.rt:109:18
 add-sent-2 : tie.Need-add-sent-2
 add-sent-2 c = search needs
 
--- src/d4.rt:109:5
 sent-requires : tie.Need-sent-requires
 sent-requires c κs = search needs
 
--- src/d4.rt:99:1
 same-length : tie.Need-same-length
 same-length c = search needs
 
--- src/d4.rt:99:1
 returns-2 : tie.Need-returns-2
 unfolding overlay
 returns-2 c =

@@ -1,39 +1,28 @@
 use Rattle.gateway.proofs.Rules4.{plain-done}
-use Rattle.gateway.proofs.Settling.{answered-refused, answered-sent, answered-as, room-short, room-enough}
+use Rattle.gateway.proofs.Settling.{answered-refused, answered-sent, room-short, room-enough}
 use Rattle.rules.specs.Answer.{plain, overlay}
 use Rattle.rules.proofs.Reading.{ipv6-length}
 use Rattle.rules.specs.Ipv6.{ipv6}
 use lib.ListN.{drop, length-drop}
-use Rattle.rules.specs.Octets.{octet, window}
 use denote.Ref.{now}
-use lib.ListN.{length, getD}
+use lib.ListN.{length}
 use native.Mathlib.Omega.{arith}
-use Prim.Native.Nat.{ℕ, _+_, _-_, _*_, _≤_, _<_}
-use mathlib.Core.List.{List, [], _∷_, _++_}
-use mathlib.Core.Path.{_≡_, refl, sym, ap, _∙_}
+use Prim.Native.Nat.{ℕ, _+_, _-_}
+use mathlib.Core.List.{List}
+use mathlib.Core.Path.{sym, ap, _∙_}
 use borrow.Author.Needs.{needs}
 use Rattle.gateway.proofs.d4.send_plain.Statement.{statement}
 use Rattle.gateway.proofs.d4.send_plain.Tie as tie
-use Rattle.gateway.proofs.d4.send_plain.Reads as reads
-use Rattle.gateway.proofs.d4.send_plain.Lts as lts
-use Rattle.gateway.proofs.answer.Answer.plain.Reads as plain-reads
-use Rattle.gateway.proofs.answer.Answer.sent.Reads as sent-reads
-use Rattle.ip.proofs.put_ipv6.Reads as put-ipv6-reads
-use Rattle.octets.proofs.copy_part.Reads as copy-part-reads
 
--- src/d4.rt:117:16
 sub-size : tie.Need-sub-size
 sub-size c = search needs
 
--- src/d4.rt:118:20
 add-if1 : tie.Need-add-if1
 add-if1 c = search needs
 
--- src/d4.rt:119:9
 plain-requires : tie.Need-plain-requires
 plain-requires c κs = search needs
 
--- src/d4.rt:119:9
 returns : tie.Need-returns
 returns c =
     let s = c .before .before .before .before in
@@ -43,31 +32,24 @@ returns c =
     let l = ipv6-length (a .class) n (a .upper) (a .hops) (a .source) (a .sid) (drop (a .place) p) (omega (arith, s)) (omega (arith, s)) ∙ ap (λ (k : ℕ). 40 + k) (length-drop (a .place) p) in
     answered-refused _ (plain 16) _ _ (room-short (length (now (a .out))) (ipv6 (a .class) n (a .upper) (a .hops) (a .source) (a .sid) (drop (a .place) p)) (rw l (c .before .if1 .taken))) (c .plain .ensures)
 
--- src/d4.rt:121:30
 cast-put-ipv6 : tie.Need-cast-put-ipv6
 cast-put-ipv6 c = search needs
 
--- src/d4.rt:121:5
 put-ipv6-requires : tie.Need-put-ipv6-requires
 put-ipv6-requires c κs = search needs
 
--- src/d4.rt:122:5
 copy-part-requires : tie.Need-copy-part-requires
 copy-part-requires c κs = search needs
 
--- src/d4.rt:123:18
 add-sent : tie.Need-add-sent
 add-sent c = search needs
 
--- src/d4.rt:123:5
 sent-requires : tie.Need-sent-requires
 sent-requires c κs = search needs
 
--- src/d4.rt:113:1
 same-length : tie.Need-same-length
 same-length c = search needs
 
--- src/d4.rt:113:1
 returns-2 : tie.Need-returns-2
 unfolding overlay
 returns-2 c =

@@ -1,117 +1,80 @@
-use Rattle.gateway.proofs.Tunnels.{e4-length, e4-done, e4-refuses, e4-passes, e4-bounds}
-use Rattle.gateway.proofs.Settling.{answered-refused, answered-sent, answered-as, room-short, room-enough}
 use Rattle.gateway.specs.Heads.{e4Head}
 use Rattle.octets.proofs.Laws.{next, run-as}
-use Rattle.rules.specs.E4.{e4Carried, e4Packet}
-use Rattle.rules.specs.Answer.{plain}
-use Rattle.rules.specs.declared.Header.{Header}
-use Rattle.rules.specs.Header.{header}
 use Rattle.rules.specs.Gtpu.{datagramBefore}
 use Rattle.rules.specs.Ipv4.{ipv4}
 use Rattle.rules.specs.Octets.{octet, window}
 use denote.Ref.{now}
-use lib.ListN.{length}
 use native.Mathlib.Omega.{arith}
-use Prim.Native.Nat.{ℕ, _+_, _-_, _*_, _≤_, _<_}
-use mathlib.Core.List.{List, [], _∷_, _++_}
-use mathlib.Core.Path.{_≡_, refl, sym, ap, _∙_}
+use Prim.Native.Nat.{ℕ, _+_, _-_}
+use mathlib.Core.List.{List, [], _++_}
+use mathlib.Core.Path.{_≡_, refl, ap, _∙_}
 use borrow.Author.Needs.{needs}
 use Rattle.gateway.proofs.e4.put_head.Statement.{statement}
 use Rattle.gateway.proofs.e4.put_head.Tie as tie
-use Rattle.gateway.proofs.e4.put_head.Reads as reads
-use Rattle.gateway.proofs.e4.put_head.Lts as lts
-use Rattle.args.proofs.Args.from_sid.Reads as from-sid-reads
-use Rattle.gtpu.proofs.put_datagram.Reads as put-datagram-reads
-use Rattle.ip.proofs.put_ipv4.Reads as put-ipv4-reads
-use Rattle.octets.proofs.join16.Reads as join16-reads
-use Rattle.octets.proofs.wide.Reads as wide-reads
-use Rattle.octets.proofs.window4.Reads as window4-reads
 
--- src/e4.rt:74:13
 shared-slice-read-p : tie.Need-shared-slice-read-p
 shared-slice-read-p c = search needs
 
--- src/e4.rt:75:13
 shared-slice-read-q : tie.Need-shared-slice-read-q
 shared-slice-read-q c = search needs
 
--- src/e4.rt:76:47
 add-from-sid : tie.Need-add-from-sid
 add-from-sid c = search needs
 
--- src/e4.rt:76:42
 mul-from-sid : tie.Need-mul-from-sid
 mul-from-sid c = search needs
 
--- src/e4.rt:76:9
 from-sid-requires : tie.Need-from-sid-requires
 from-sid-requires c κs = search needs
 
--- src/e4.rt:77:34
 slice-aggregate-window4 : tie.Need-slice-aggregate-window4
 slice-aggregate-window4 c = search needs
 
--- src/e4.rt:77:41
 wide-requires : tie.Need-wide-requires
 wide-requires c κs = search needs
 
--- src/e4.rt:77:9
 window4-requires : tie.Need-window4-requires
 window4-requires c κs = search needs
 
--- src/e4.rt:78:39
 slice-aggregate-window4-2 : tie.Need-slice-aggregate-window4-2
 slice-aggregate-window4-2 c = search needs
 
--- src/e4.rt:78:45
 wide-requires-2 : tie.Need-wide-requires-2
 wide-requires-2 c κs = search needs
 
--- src/e4.rt:78:9
 window4-requires-2 : tie.Need-window4-requires-2
 window4-requires-2 c κs = search needs
 
--- src/e4.rt:79:18
 add-total : tie.Need-add-total
 add-total c = search needs
 
--- src/e4.rt:79:17
 cast-total : tie.Need-cast-total
 cast-total c = search needs
 
--- src/e4.rt:80:37
 shared-slice-read-put-ipv4 : tie.Need-shared-slice-read-put-ipv4
 shared-slice-read-put-ipv4 c = search needs
 
--- src/e4.rt:80:5
 put-ipv4-requires : tie.Need-put-ipv4-requires
 put-ipv4-requires c κs = search needs
 
--- src/e4.rt:81:48
 shared-slice-read-join16 : tie.Need-shared-slice-read-join16
 shared-slice-read-join16 c = search needs
 
--- src/e4.rt:81:55
 shared-slice-read-join16-2 : tie.Need-shared-slice-read-join16-2
 shared-slice-read-join16-2 c = search needs
 
--- src/e4.rt:81:33
 join16-requires : tie.Need-join16-requires
 join16-requires c κs = search needs
 
--- src/e4.rt:81:63
 shared-slice-read-put-datagram : tie.Need-shared-slice-read-put-datagram
 shared-slice-read-put-datagram c = search needs
 
--- src/e4.rt:81:5
 put-datagram-requires : tie.Need-put-datagram-requires
 put-datagram-requires c κs = search needs
 
--- src/e4.rt:70:1
 same-length : tie.Need-same-length
 same-length c = search needs
 
--- src/e4.rt:70:1
 returns : tie.Need-returns
 unfolding e4Head
 returns c =

@@ -3,53 +3,38 @@ use Rattle.rules.specs.E6.{e6Rows}
 use borrow.Author.Needs.{needs}
 use Rattle.gateway.proofs.e6.judge.Statement.{statement}
 use Rattle.gateway.proofs.e6.judge.Tie as tie
-use Rattle.gateway.proofs.e6.judge.Reads as reads
-use Rattle.gateway.proofs.e6.judge.Lts as lts
-use Rattle.gateway.proofs.e6.bad_chain.Reads as bad-chain-reads
-use Rattle.gateway.proofs.e6.bad_left.Reads as bad-left-reads
-use Rattle.gateway.proofs.e6.bad_upper.Reads as bad-upper-reads
 
--- src/e6.rt:48:8
 bad-chain-requires : tie.Need-bad-chain-requires
 bad-chain-requires c κs = search needs
 
--- src/e6.rt:49:9
 returns : tie.Need-returns
 unfolding e6Rows
 returns c = search judged-here depth 20
 
--- src/e6.rt:56:8
 bad-left-requires : tie.Need-bad-left-requires
 bad-left-requires c κs = search needs
 
--- src/e6.rt:57:9
 returns-2 : tie.Need-returns-2
 unfolding e6Rows
 returns-2 c = search judged-here depth 20
 
--- src/e6.rt:64:18
 shared-slice-read-bad-upper : tie.Need-shared-slice-read-bad-upper
 shared-slice-read-bad-upper c = search needs
 
--- src/e6.rt:64:8
 bad-upper-requires : tie.Need-bad-upper-requires
 bad-upper-requires c κs = search needs
 
--- src/e6.rt:65:9
 returns-3 : tie.Need-returns-3
 unfolding e6Rows
 returns-3 c = search judged-here depth 20
 
--- src/e6.rt:72:16
 add-if4 : tie.Need-add-if4
 add-if4 c = search needs
 
--- src/e6.rt:73:9
 returns-4 : tie.Need-returns-4
 unfolding e6Rows
 returns-4 c = search judged-here depth 20
 
--- src/e6.rt:44:1
 returns-5 : tie.Need-returns-5
 unfolding e6Rows
 returns-5 c = search judged-here depth 20

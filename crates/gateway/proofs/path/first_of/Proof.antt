@@ -1,22 +1,16 @@
 use borrow.Author.Needs.{needs}
 use Rattle.gateway.proofs.path.first_of.Statement.{statement}
 use Rattle.gateway.proofs.path.first_of.Tie as tie
-use Rattle.gateway.proofs.path.first_of.Reads as reads
-use Rattle.gateway.proofs.path.first_of.Lts as lts
 
--- src/path.rt:15:33
 enum-told : tie.Need-enum-told
 enum-told c = search needs
 
--- src/path.rt:16:32
 enum-known-v : tie.Need-enum-known-v
 enum-known-v c = search needs
 
--- src/path.rt:11:1
 returns : tie.Need-returns
 returns c = search needs
 
--- src/path.rt:11:1
 returns-2 : tie.Need-returns-2
 returns-2 c = rw (c .before .v .given .1)
 

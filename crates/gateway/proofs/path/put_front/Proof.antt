@@ -1,72 +1,50 @@
-use Rattle.gateway.proofs.Paths.{first-only, first-of-more, path-one}
 use Rattle.gateway.proofs.Tunnels.{ipv6-before}
-use Rattle.gateway.specs.Heads.{pathFront, pathHead}
+use Rattle.gateway.specs.Heads.{pathFront}
 use Rattle.octets.proofs.Laws.{next, run-as}
-use Rattle.rules.specs.Table.{addressesAt}
-use Rattle.rules.specs.Octets.{octet, window}
-use denote.Ref.{now}
-use lib.ListN.{length, getD}
 use native.Mathlib.Omega.{arith}
-use Prim.Native.Nat.{ℕ, _+_, _-_, _*_, _≤_, _<_}
-use mathlib.Core.List.{List, [], _∷_, _++_}
-use mathlib.Core.Path.{_≡_, refl, sym, ap, _∙_}
+use Prim.Native.Nat.{_+_, _-_, _*_}
+use mathlib.Core.List.{[], _∷_}
+use mathlib.Core.Path.{refl}
 use borrow.Author.Needs.{needs}
 use Rattle.gateway.proofs.path.put_front.Statement.{statement}
 use Rattle.gateway.proofs.path.put_front.Tie as tie
-use Rattle.gateway.proofs.path.put_front.Reads as reads
-use Rattle.gateway.proofs.path.put_front.Lts as lts
-use Rattle.ip.proofs.put_ipv6.Reads as put-ipv6-reads
-use Rattle.octets.proofs.copy_to.Reads as copy-to-reads
 
--- src/path.rt:25:24
 mul-payload : tie.Need-mul-payload
 mul-payload c = search needs
 
--- src/path.rt:25:20
 add-payload : tie.Need-add-payload
 add-payload c = search needs
 
--- src/path.rt:25:20
 add-payload-2 : tie.Need-add-payload-2
 add-payload-2 c = search needs
 
--- src/path.rt:25:19
 cast-payload : tie.Need-cast-payload
 cast-payload c = search needs
 
--- src/path.rt:26:17
 sub-left : tie.Need-sub-left
 sub-left c = search needs
 
--- src/path.rt:26:16
 cast-left : tie.Need-cast-left
 cast-left c = search needs
 
--- src/path.rt:27:26
 mul-t14 : tie.Need-mul-t14
 mul-t14 c = search needs
 
--- src/path.rt:27:25
 cast-t15 : tie.Need-cast-t15
 cast-t15 c = search needs
 
--- src/path.rt:28:5
 put-ipv6-requires : tie.Need-put-ipv6-requires
 put-ipv6-requires c κs = search needs
 
--- src/path.rt:29:30
 slice-aggregate-copy-to : tie.Need-slice-aggregate-copy-to
 slice-aggregate-copy-to c = search needs
 
--- src/path.rt:29:5
 copy-to-requires : tie.Need-copy-to-requires
 copy-to-requires c κs = search needs
 
--- src/path.rt:21:1
 same-length : tie.Need-same-length
 same-length c = search needs
 
--- src/path.rt:21:1
 returns : tie.Need-returns
 unfolding pathFront
 returns c =

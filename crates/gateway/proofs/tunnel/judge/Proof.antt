@@ -8,51 +8,34 @@ use mathlib.Core.List.{List, _++_}
 use borrow.Author.Needs.{needs}
 use Rattle.gateway.proofs.tunnel.judge.Statement.{statement}
 use Rattle.gateway.proofs.tunnel.judge.Tie as tie
-use Rattle.gateway.proofs.tunnel.judge.Reads as reads
-use Rattle.gateway.proofs.tunnel.judge.Lts as lts
-use Rattle.gateway.proofs.path.first_of.Reads as first-of-reads
-use Rattle.gateway.proofs.tunnel.judge_tunnel.Reads as judge-tunnel-reads
-use Rattle.gtpu.proofs.judge_gpdu.Reads as judge-gpdu-reads
-use Rattle.gtpu.proofs.judge_inner.Reads as judge-inner-reads
-use Rattle.gtpu.proofs.judge_message.Reads as judge-message-reads
 
--- src/tunnel.rt:48:35
 shared-slice-read-judge-inner : tie.Need-shared-slice-read-judge-inner
 shared-slice-read-judge-inner c = search needs
 
--- src/tunnel.rt:48:9
 judge-inner-requires : tie.Need-judge-inner-requires
 judge-inner-requires c κs = search needs
 
--- src/tunnel.rt:49:47
 shared-slice-read-judge-gpdu : tie.Need-shared-slice-read-judge-gpdu
 shared-slice-read-judge-gpdu c = search needs
 
--- src/tunnel.rt:49:30
 judge-gpdu-requires : tie.Need-judge-gpdu-requires
 judge-gpdu-requires c κs = search needs
 
--- src/tunnel.rt:49:9
 first-of-requires : tie.Need-first-of-requires
 first-of-requires c κs = search needs
 
--- src/tunnel.rt:51:9
 judge-tunnel-requires : tie.Need-judge-tunnel-requires
 judge-tunnel-requires c κs = search needs
 
--- src/tunnel.rt:52:24
 judge-message-requires : tie.Need-judge-message-requires
 judge-message-requires c κs = search needs
 
--- src/tunnel.rt:52:9
 first-of-requires-2 : tie.Need-first-of-requires-2
 first-of-requires-2 c κs = search needs
 
--- src/tunnel.rt:50:5
 first-of-requires-3 : tie.Need-first-of-requires-3
 first-of-requires-3 c κs = search needs
 
--- src/tunnel.rt:44:1
 returns : tie.Need-returns
 returns c =
     let a = c .before .before .before .before .before .before .before .before .before .before .args in

@@ -3,40 +3,28 @@ use Rattle.rules.specs.Gtp6D.{gtp6Rows}
 use borrow.Author.Needs.{needs}
 use Rattle.gateway.proofs.tunnel.judge_tunnel.Statement.{statement}
 use Rattle.gateway.proofs.tunnel.judge_tunnel.Tie as tie
-use Rattle.gateway.proofs.tunnel.judge_tunnel.Reads as reads
-use Rattle.gateway.proofs.tunnel.judge_tunnel.Lts as lts
-use Rattle.gtpu.proofs.not_gtpu.Reads as not-gtpu-reads
-use Rattle.ip.proofs.bad_chain.Reads as bad-chain-reads
-use Rattle.ip.proofs.segments_remain.Reads as segments-remain-reads
 
--- src/tunnel.rt:16:8
 bad-chain-requires : tie.Need-bad-chain-requires
 bad-chain-requires c κs = search needs
 
--- src/tunnel.rt:17:9
 returns : tie.Need-returns
 unfolding gtp6Rows
 returns c = search judged depth 20
 
--- src/tunnel.rt:24:8
 segments-remain-requires : tie.Need-segments-remain-requires
 segments-remain-requires c κs = search needs
 
--- src/tunnel.rt:25:9
 returns-2 : tie.Need-returns-2
 unfolding gtp6Rows
 returns-2 c = search judged depth 20
 
--- src/tunnel.rt:32:8
 not-gtpu-requires : tie.Need-not-gtpu-requires
 not-gtpu-requires c κs = search needs
 
--- src/tunnel.rt:33:9
 returns-3 : tie.Need-returns-3
 unfolding gtp6Rows
 returns-3 c = search judged depth 20
 
--- src/tunnel.rt:13:1
 returns-4 : tie.Need-returns-4
 unfolding gtp6Rows
 returns-4 c = search judged depth 20

@@ -1,73 +1,50 @@
 use Rattle.srh.specs.State.{state}
-use Rattle.gateway.proofs.Steps.{routed-length, chain-refuses, step-refuses, step-forwards, step-long}
-use Rattle.gateway.proofs.Settling.{answered-refused, answered-sent, answered-as, room-short, room-enough}
-use Rattle.rules.specs.Waypoint.{Routing, withRouting}
+use Rattle.gateway.proofs.Steps.{chain-refuses, step-refuses, step-forwards, step-long}
+use Rattle.gateway.proofs.Settling.{answered-refused, answered-as}
 use Rattle.rules.specs.Answer.{plain}
 use Rattle.rules.specs.Octets.{window}
 use denote.Ref.{now}
 use lib.ListN.{length}
-use native.Mathlib.Omega.{arith}
-use Prim.Native.Nat.{ℕ, _+_, _-_, _*_, _≤_, _<_}
+use Prim.Native.Nat.{ℕ, _-_}
 use mathlib.Core.List.{List}
-use mathlib.Core.Path.{_≡_, sym, ap, _∙_}
+use mathlib.Core.Path.{sym, ap, _∙_}
 use borrow.Author.Needs.{needs}
 use Rattle.gateway.proofs.waypoint.at_waypoint.Statement.{statement}
 use Rattle.gateway.proofs.waypoint.at_waypoint.Tie as tie
-use Rattle.gateway.proofs.waypoint.at_waypoint.Reads as reads
-use Rattle.gateway.proofs.waypoint.at_waypoint.Lts as lts
-use Rattle.gateway.proofs.answer.Answer.plain.Reads as plain-reads
-use Rattle.gateway.proofs.answer.Answer.refused.Reads as refused-reads
-use Rattle.gateway.proofs.waypoint.forward.Reads as forward-reads
-use Rattle.gateway.proofs.waypoint.segment_at.Reads as segment-at-reads
-use Rattle.ip.proofs.bad_chain.Reads as bad-chain-reads
-use Rattle.octets.proofs.window16.Reads as window16-reads
-use Rattle.srh.proofs.Routing.of.Reads as of-reads
-use Rattle.srh.proofs.Routing.step.Reads as step-reads
 
--- src/waypoint.rt:58:8
 bad-chain-requires : tie.Need-bad-chain-requires
 bad-chain-requires c κs = search needs
 
--- src/waypoint.rt:59:9
 plain-requires : tie.Need-plain-requires
 plain-requires c κs = search needs
 
--- src/waypoint.rt:59:9
 returns : tie.Need-returns
 returns c =
     let s = c .before .before .before .before .before in
     let a = s .args in
     answered-refused _ (plain 5) _ _ (chain-refuses (now (a .packet)) (a .h) (s .pre .0) (length (now (a .out))) (sym (c .before .before .bad-chain .ensures) ∙ c .before .if1 .taken)) (c .plain .ensures)
 
--- src/waypoint.rt:61:44
 segment-at-requires : tie.Need-segment-at-requires
 segment-at-requires c κs = search needs
 
--- src/waypoint.rt:61:9
 window16-requires : tie.Need-window16-requires
 window16-requires c κs = search needs
 
--- src/waypoint.rt:62:19
 of-requires : tie.Need-of-requires
 of-requires c κs = search needs
 
--- src/waypoint.rt:62:9
 step-requires : tie.Need-step-requires
 step-requires c κs = search needs
 
--- src/waypoint.rt:65:32
 enum-known-verdict : tie.Need-enum-known-verdict
 enum-known-verdict c = search needs
 
--- src/waypoint.rt:65:38
 refused-requires : tie.Need-refused-requires
 refused-requires c κs = search needs
 
--- src/waypoint.rt:67:17
 enum-told : tie.Need-enum-told
 enum-told c = search needs
 
--- src/waypoint.rt:69:13
 forward-requires : tie.Need-forward-requires
 forward-requires c κs =
     let s = c .before .before .before .before .before .before .before .before .before .before .before .before .before in
@@ -76,7 +53,6 @@ forward-requires c κs =
     let named = c .before .before .before .before .before .before .before .window16 .ensures ∙ ap (λ (n : ℕ). window p n 16) (c .before .before .before .before .before .before .before .before .segment-at .ensures) in
     (step-long p (a .h) (s .pre .0) (length (now (a .out))) (sym (c .before .before .before .before .before .before .before .before .before .before .bad-chain .ensures) ∙ c .before .before .before .before .before .before .before .before .before .if1 .left) (a .front) _ (state (c .before .before .before .before .before .before .of .result)) (state (c .before .before .before .before .before .step .result .next)) _ (s .pre .1) (c .before .before .before .before .before .before .of .ensures) named (c .before .before .before .before .before .step .ensures .0) (c .before .before .before .before .before .step .ensures .1) (c .before .before .before .enum-told .given .1), s .pre .0 .short)
 
--- src/waypoint.rt:54:1
 returns-2 : tie.Need-returns-2
 returns-2 c =
     let s = c .before .before .before .before .before .before .before .before .before .before .before .before in
@@ -85,11 +61,9 @@ returns-2 c =
     let named = c .before .before .before .before .before .before .window16 .ensures ∙ ap (λ (n : ℕ). window p n 16) (c .before .before .before .before .before .before .before .segment-at .ensures) in
     answered-refused _ _ _ _ (step-refuses p (a .h) (s .pre .0) (length (now (a .out))) (sym (c .before .before .before .before .before .before .before .before .before .bad-chain .ensures) ∙ c .before .before .before .before .before .before .before .before .if1 .left) (a .front) _ (state (c .before .before .before .before .before .of .result)) (state (c .before .before .before .before .step .result .next)) _ (s .pre .1) (c .before .before .before .before .before .of .ensures) named (c .before .before .before .before .step .ensures .0) (c .before .before .before .before .step .ensures .1) _ (c .before .before .verdict .given .1)) (c .refused .ensures)
 
--- src/waypoint.rt:54:1
 same-length : tie.Need-same-length
 same-length c = search needs
 
--- src/waypoint.rt:54:1
 returns-3 : tie.Need-returns-3
 returns-3 c =
     let s = c .before .before .before .before .before .before .before .before .before .before .before .before .before .before .before .before in
