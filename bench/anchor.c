@@ -66,7 +66,7 @@ struct g_pdu {
 };
 
 /* Rows 9 to 13 of a UDP datagram; 0 if none applies. */
-static unsigned int read_g_pdu(const uint8_t *udp, size_t size, uint8_t direction, struct g_pdu *g)
+static inline unsigned int read_g_pdu(const uint8_t *udp, size_t size, uint8_t direction, struct g_pdu *g)
 {
     const uint8_t *gtpu = udp + UDP_SIZE;
     if (size < UDP_SIZE || word16(udp + 4) != size)
@@ -129,16 +129,17 @@ static uint64_t at_waypoint(const uint8_t *packet, size_t size, uint8_t *out, si
         return bad_segments_left();
     if (room < size)
         return KAWSARPA_ANSWER_NO_ROOM;
+    const uint8_t left = (uint8_t)(c.srh[3] - 1);
     memcpy(out, packet, size);
-    out[7]--;
-    out[43]--;
-    memcpy(out + 24, c.srh + SRH_SIZE + ADDRESS * out[43], ADDRESS);
+    out[7] = (uint8_t)(packet[7] - 1);
+    out[IPV6_SIZE + 3] = left;
+    memcpy(out + 24, c.srh + SRH_SIZE + ADDRESS * left, ADDRESS);
     return sent(size);
 }
 
-/* End.M.GTP6.D, and with `drop_in` End.M.GTP6.D.Di (RFC 9433, 6.3 and 6.4). */
-static uint64_t at_d(const struct kawsarpa_entry *e, const struct kawsarpa_policy *y, bool drop_in, const uint8_t *packet, size_t size,
-                     uint8_t *out, size_t room)
+/* What D and Di do; with `drop_in` the arriving destination follows the last SID. */
+static inline uint64_t encapsulate(const struct kawsarpa_entry *e, const struct kawsarpa_policy *y, bool drop_in, const uint8_t *packet, size_t size,
+                                   uint8_t *out, size_t room)
 {
     struct chain c;
     if (!read_chain(packet, size, &c))
@@ -176,6 +177,18 @@ static uint64_t at_d(const struct kawsarpa_entry *e, const struct kawsarpa_polic
     put_ipv6(out, traffic_class(packet), head - IPV6_SIZE + inner_size, ROUTING, e->hop_limit, e->source, out + head - ADDRESS);
     memcpy(out + head, inner, inner_size);
     return sent(head + inner_size);
+}
+
+/* End.M.GTP6.D (RFC 9433, 6.3). */
+static uint64_t at_d(const struct kawsarpa_entry *e, const struct kawsarpa_policy *y, const uint8_t *packet, size_t size, uint8_t *out, size_t room)
+{
+    return encapsulate(e, y, false, packet, size, out, room);
+}
+
+/* End.M.GTP6.D.Di (RFC 9433, 6.4). */
+static uint64_t at_di(const struct kawsarpa_entry *e, const struct kawsarpa_policy *y, const uint8_t *packet, size_t size, uint8_t *out, size_t room)
+{
+    return encapsulate(e, y, true, packet, size, out, room);
 }
 
 /* End.M.GTP6.E (RFC 9433, 6.5). */
@@ -278,12 +291,12 @@ static bool bad_header4(const uint8_t *packet)
     return (packet[0] & 15) != 5 || (word16(packet + 6) & 0x3FFF) != 0 || header_sum(packet) != 0xFFFF;
 }
 
-static uint64_t behave(const struct kawsarpa_entry *e, const struct kawsarpa_policy *y, const uint8_t *packet, size_t size, uint8_t *out, size_t room)
+static inline uint64_t behave(const struct kawsarpa_entry *e, const struct kawsarpa_policy *y, const uint8_t *packet, size_t size, uint8_t *out, size_t room)
 {
     switch (e->behaviour) {
     case KAWSARPA_BEHAVIOUR_END: return at_waypoint(packet, size, out, room);
-    case KAWSARPA_BEHAVIOUR_END_M_GTP6_D: return at_d(e, y, false, packet, size, out, room);
-    case KAWSARPA_BEHAVIOUR_END_M_GTP6_D_DI: return at_d(e, y, true, packet, size, out, room);
+    case KAWSARPA_BEHAVIOUR_END_M_GTP6_D: return at_d(e, y, packet, size, out, room);
+    case KAWSARPA_BEHAVIOUR_END_M_GTP6_D_DI: return at_di(e, y, packet, size, out, room);
     case KAWSARPA_BEHAVIOUR_END_M_GTP6_E: return at_e6(e, packet, size, out, room);
     default: return at_e4(e, packet, size, out, room);
     }
