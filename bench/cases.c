@@ -165,10 +165,13 @@ void make_packet(const struct kind *kind, unsigned int records, unsigned int num
         put_ipv6(packet, 0, size - IPV6_SIZE, UDP, 64, source, to);
         put_g_pdu(packet + IPV6_SIZE, number, size - IPV6_SIZE - DATAGRAM_SIZE);
     } else if (kind->behaviour == KAWSARPA_BEHAVIOUR_END_M_GTP4_E) {
+        /* no SRH, as D4 without waypoints sends */
         to[P + 4] = (uint8_t)(number << 2);
         put_ipv6(packet, 0, size - IPV6_SIZE, IPV4, 64, source, to);
     } else {
         /* an SRH of one segment, not yet reached, for the waypoint and for E6 */
+        if (kind->behaviour == KAWSARPA_BEHAVIOUR_END_M_GTP6_E)
+            to[ARGS_OCTET] = (uint8_t)(number << 2);
         put_ipv6(packet, 0, size - IPV6_SIZE, ROUTING, 64, source, to);
         put_srh(packet + IPV6_SIZE, IPV4, 1);
         packet[IPV6_SIZE + 3] = 1;

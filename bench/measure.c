@@ -38,7 +38,7 @@ static uint64_t batch(const struct load *l, call *subject, unsigned int first)
 {
     const uint64_t begin = ticks();
     for (unsigned int i = 0; i < BATCH; i++)
-        subject(l->packets + l->stride * ((first + i) % l->count), l->size, l->table, l->table_len, l->out, l->out_len);
+        subject(l->packets + l->stride * ((first + i) & (l->count - 1)), l->size, l->table, l->table_len, l->out, l->out_len);
     return ticks() - begin;
 }
 
@@ -55,7 +55,7 @@ void measure_times(const struct load *l, call *const subjects[], unsigned int su
     const uint64_t begin = ticks();
     while (rounds < ROUNDS_MOST && (rounds < ROUNDS_LEAST || ticks() - begin < TICKS)) {
         /* each batch goes on where the last one stopped, so no subject finds packets that another has just read */
-        for (unsigned int s = 0; s < subject_count; s++, first = (first + BATCH) % l->count)
+        for (unsigned int s = 0; s < subject_count; s++, first += BATCH)
             taken[s][rounds] = batch(l, subjects[s], first);
         rounds++;
     }

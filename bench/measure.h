@@ -7,7 +7,7 @@
 
 typedef uint64_t call(const uint8_t *packet, size_t packet_len, const uint8_t *table, size_t table_len, uint8_t *out, size_t out_len);
 
-/* What the calls are given: `count` packets of one length, one every `stride` octets, taken in turn. */
+/* What the calls are given: `count` packets of one length, a power of two of them, one every `stride` octets, taken in turn. */
 struct load {
     const uint8_t *packets;
     size_t stride, size;
