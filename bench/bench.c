@@ -155,11 +155,15 @@ int main(int argc, char **argv)
         for (unsigned int s = 0; s < SIZES; s++)
             for (unsigned int t = 0; t < TABLES; t++)
                 measure_case(count, &kinds[k], sizes[s], t);
-    for (unsigned int k = 0; k < kind_count; k++)
+    for (unsigned int k = 0; k < kind_count; k++) {
+        /* kinds that differ in segments alone: the tables cost the same */
+        if (k + 1 < kind_count && kinds[k].behaviour == kinds[k + 1].behaviour)
+            continue;
         for (unsigned int t = 0; t < TABLES; t++) {
             make_table(&kinds[k], t, &table);
             measure_soundness(count, kinds[k].name);
         }
+    }
     for (int shuffled = 0; shuffled < 2; shuffled++) {
         make_full_table(shuffled != 0, &table);
         measure_soundness(count, "full");
