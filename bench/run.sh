@@ -20,14 +20,16 @@ gcc -Wl,-z,now -o "$dir/bench" "$dir"/{bench,measure,cases,anchor,anchor_table}.
 # The anchor counts only if it agrees: the cases that tests/c/vectors.sh puts to the library, put to the anchor under its names.
 gcc "${flags[@]}" -Dkawsarpa_translate_ipv6=anchor_translate_ipv6 -Dkawsarpa_translate_ipv4=anchor_translate_ipv4 \
     -o "$dir/agree" "$here/../tests/c/vectors.c" "$dir"/{anchor,anchor_table}.o
-echo "the anchor, judged by the second program:"
-"$second" vectors --seed 1 --per-kind 2000 | "$dir/agree"
-"$second" vectors --seed 5 --per-kind 600 --max-packet 2500 | "$dir/agree"
-"$second" vectors --seed 7 --per-kind 200 --max-packet 65600 | "$dir/agree"
-echo
+{
+    echo "The anchor judged by the second program"
+    "$second" vectors --seed 1 --per-kind 2000 | "$dir/agree"
+    "$second" vectors --seed 5 --per-kind 600 --max-packet 2500 | "$dir/agree"
+    "$second" vectors --seed 7 --per-kind 200 --max-packet 65600 | "$dir/agree"
+    echo
+} | tee "$dir/table.txt"
 
 valgrind --quiet --tool=callgrind --collect-atstart=no --dump-instr=yes --compress-strings=no --compress-pos=no \
     --callgrind-out-file="$dir/dumps/dump" "$dir/bench" count
 "$dir/bench" time >"$dir/times"
-python3 -B "$here/report.py" "$dir/times" "$dir/dumps" "$dir/bench" | tee "$dir/table.txt"
+python3 -B "$here/report.py" "$dir/times" "$dir/dumps" "$dir/bench" | tee -a "$dir/table.txt"
 python3 -B "$here/plot.py" "$dir/dumps" >"$dir/performance.svg"
