@@ -5,10 +5,10 @@
 #include <valgrind/callgrind.h>
 #include <x86intrin.h>
 
-enum { BATCH = 128, ROUNDS_LEAST = 40, ROUNDS_MOST = 1000, PERCENTILE = 5 };
+enum { BATCH = 128, ROUNDS_LEAST = 40, ROUNDS_MOST = 4000, PERCENTILE = 5 };
 
 /* A set of rounds ends after so many ticks, if it had ROUNDS_LEAST. */
-static const uint64_t TICKS = 30000000;
+static const uint64_t TICKS = 150000000;
 
 static uint64_t ticks(void)
 {
