@@ -4,7 +4,7 @@ SHELL := bash
 .SHELLFLAGS := -eu -o pipefail -c
 .DELETE_ON_ERROR:
 .NOTPARALLEL:
-.PHONY: all prove test ci toolchain tools format second staticlib library programs boundary fuzz mutants peers tool tool-test demo demo-packages clean
+.PHONY: all prove test ci toolchain tools format second staticlib library programs boundary fuzz mutants peers tool tool-test demo demo-packages bench bench-packages clean
 
 archive := target/staticlib/libkawsarpa.a
 second := tests/second/target/release/second
@@ -128,6 +128,14 @@ demo: demo-packages staticlib target/tools/kawsarpa
 
 demo-packages:
 	$(call install,gcc:gcc $(filter-out clang-tidy:%,$(tool_needs)))
+
+# what a call costs, in instructions and in time, beside a translation written by hand in C and a plain copy
+bench: bench-packages staticlib
+	cargo build --release --offline --quiet --manifest-path tests/second/Cargo.toml
+	bench/run.sh $(archive) $(second) target/bench
+
+bench-packages:
+	$(call install,gcc:gcc nm:binutils cargo:cargo valgrind:valgrind /usr/include/valgrind/callgrind.h:valgrind python3:python3)
 
 clean:
 	rm -rf target tests/second/target tests/boundary/target

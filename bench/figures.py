@@ -1,0 +1,60 @@
+"""The figures of one `make bench`: what `bench time` printed, and callgrind's files of `bench count`.
+
+A case is (kind, octets, records, order, load); its subjects are memcpy, bare, anchor and library."""
+import collections
+import glob
+import re
+import subprocess
+
+# What the function that does nothing executes itself.
+NOTHING = 2
+
+
+def case(fields):
+    kind, octets, records, order, load = fields
+    return (kind, int(octets), int(records), order, load)
+
+
+def read_times(name):
+    times = {}
+    with open(name) as lines:
+        for line in lines:
+            fields = line.rstrip("\n").split("|")
+            times[case(fields[:5])] = {subject: float(ns) for subject, ns in (f.split("=") for f in fields[5:])}
+    return times
+
+
+def read_dump(name):
+    """The label of one of callgrind's files, and how often each instruction was executed, by its address."""
+    label, executed, inclusive = None, collections.Counter(), False
+    with open(name) as dump:
+        for line in dump:
+            if line.startswith("desc: Trigger: Client Request: "):
+                label = line.rstrip("\n").split(": ", 3)[3]
+            elif line.startswith("calls="):
+                inclusive = True  # the next line is what the call cost, which stands with the callee too
+            elif line.startswith("0x"):
+                address, _, count = line.split()
+                if not inclusive:
+                    executed[int(address, 16)] += int(count)
+                inclusive = False
+    return label, executed
+
+
+def read_counts(directory):
+    """Instructions by case and subject, less what calling a function that does nothing takes; and the executed addresses."""
+    dumps = dict(read_dump(name) for name in glob.glob(directory + "/dump.*"))
+    calling = sum(dumps.pop("nothing").values()) - NOTHING
+    counts, executed = {}, {}
+    for label, addresses in dumps.items():
+        *where, subject = label.split("|")
+        counts.setdefault(case(where), {})[subject] = sum(addresses.values()) - calling
+        executed[(case(where), subject)] = addresses
+    return counts, executed
+
+
+def functions(program):
+    """The functions of a program: (address, size, name)."""
+    listed = subprocess.run(["nm", "-S", program], check=True, capture_output=True, text=True).stdout
+    found = re.findall(r"^([0-9a-f]+) ([0-9a-f]+) [tT] (.*)$", listed, re.M)
+    return [(int(address, 16), int(size, 16), name) for address, size, name in found]

@@ -1,0 +1,84 @@
+/* IPv6, SRH, IPv4, UDP and GTP-U headers as the anchor writes them, and the numbers that the standards fix. */
+#ifndef FORMATS_H
+#define FORMATS_H
+
+#include "kawsarpa.h"
+#include "words.h"
+
+enum {
+    IPV6_SIZE = 40, IPV4_SIZE = 20, UDP_SIZE = 8, SRH_SIZE = 8, ADDRESS = 16, ARGS_SIZE = 5,
+    GTPU_SIZE = 8, GTPU_LONG_SIZE = 12, /* without and with the four octets more */
+    DATAGRAM_SIZE = 24,                 /* UDP, GTP-U and a container of one unit */
+    HOP_BY_HOP = 0, IPV4 = 4, UDP = 17, IPV6 = 41, ROUTING = 43, FRAGMENT = 44, DESTINATION_OPTIONS = 60, ETHERNET = 143,
+    ROUTING_TYPE_SRH = 4, GTPU_PORT = 2152, G_PDU = 255, PDU_SESSION_CONTAINER = 0x85, LENGTH_MOST = 65535
+};
+
+static inline void put_ipv6(uint8_t *out, uint8_t class, size_t payload, uint8_t next, uint8_t hop_limit, const uint8_t *source, const uint8_t *to)
+{
+    put16(out, (uint16_t)(0x6000 | class << 4));
+    put16(out + 2, 0);
+    put16(out + 4, (uint16_t)payload);
+    out[6] = next;
+    out[7] = hop_limit;
+    memcpy(out + 8, source, ADDRESS);
+    memcpy(out + 24, to, ADDRESS);
+}
+
+/* The first eight octets of an SRH of n segments. */
+static inline void put_srh(uint8_t *srh, uint8_t next, size_t n)
+{
+    srh[0] = next;
+    srh[1] = (uint8_t)(2 * n);
+    srh[2] = ROUTING_TYPE_SRH;
+    srh[3] = srh[4] = (uint8_t)(n - 1);
+    memset(srh + 5, 0, 3);
+}
+
+/* Addresses in order of travel, the last of them first. */
+static inline void put_reversed(uint8_t *segments, const uint8_t addresses[][ADDRESS], size_t n)
+{
+    for (size_t i = 0; i < n; i++)
+        memcpy(segments + ADDRESS * i, addresses[n - 1 - i], ADDRESS);
+}
+
+/* UDP, GTP-U and the container before an inner packet. `args` are 5 octets of an arriving address. */
+static inline void put_datagram(uint8_t *udp, const struct kawsarpa_entry *e, const uint8_t *args, size_t inner)
+{
+    static const uint8_t fixed[DATAGRAM_SIZE] = {[2] = GTPU_PORT >> 8, GTPU_PORT & 0xFF, [8] = 0x34, G_PDU, [19] = PDU_SESSION_CONTAINER, 1};
+    const uint8_t reflective = e->direction == KAWSARPA_DIRECTION_DOWNLINK ? (uint8_t)(args[0] << 5 & 0x40) : 0;
+    memcpy(udp, fixed, sizeof fixed);
+    memcpy(udp, e->source_port, 2);
+    put16(udp + 4, (uint16_t)(DATAGRAM_SIZE + inner));
+    put16(udp + 10, (uint16_t)(DATAGRAM_SIZE - UDP_SIZE - GTPU_SIZE + inner));
+    memcpy(udp + 12, args + 1, 4);
+    udp[21] = (uint8_t)(e->direction << 4);
+    udp[22] = (uint8_t)(args[0] >> 2 | reflective);
+}
+
+/* The ones' complement sum of an IPv4 header without options (RFC 1071). */
+static inline uint16_t header_sum(const uint8_t *header)
+{
+    uint64_t sum = (uint64_t)word32(header) + word32(header + 4) + word32(header + 8) + word32(header + 12) + word32(header + 16);
+    sum = (sum & 0xFFFF) + (sum >> 16 & 0xFFFF) + (sum >> 32);
+    sum = (sum & 0xFFFF) + (sum >> 16);
+    return (uint16_t)((sum & 0xFFFF) + (sum >> 16));
+}
+
+static inline void put_ipv4(uint8_t *out, uint8_t tos, size_t total, uint8_t ttl, const uint8_t *source, const uint8_t *to)
+{
+    static const uint8_t fixed[IPV4_SIZE] = {0x45, [6] = 0x40, [9] = UDP};
+    memcpy(out, fixed, sizeof fixed);
+    out[1] = tos;
+    put16(out + 2, (uint16_t)total);
+    out[8] = ttl;
+    memcpy(out + 12, source, 4);
+    memcpy(out + 16, to, 4);
+    put16(out + 10, (uint16_t)~header_sum(out));
+}
+
+static inline uint8_t traffic_class(const uint8_t *packet)
+{
+    return (uint8_t)(word16(packet) >> 4 & 0xFF);
+}
+
+#endif

@@ -1,0 +1,79 @@
+#include "measure.h"
+
+#include <stdlib.h>
+#include <time.h>
+#include <valgrind/callgrind.h>
+#include <x86intrin.h>
+
+enum { BATCH = 128, ROUNDS_LEAST = 40, ROUNDS_MOST = 4000, PERCENTILE = 5 };
+
+/* A set of rounds ends after so many ticks, if it had ROUNDS_LEAST. */
+static const uint64_t TICKS = 150000000;
+
+static uint64_t ticks(void)
+{
+    _mm_lfence();
+    return __rdtsc();
+}
+
+static double ns_per_tick(void)
+{
+    static double known;
+    struct timespec from, to;
+    uint64_t begin, end;
+    if (known != 0)
+        return known;
+    clock_gettime(CLOCK_MONOTONIC, &from);
+    begin = ticks();
+    do {
+        clock_gettime(CLOCK_MONOTONIC, &to);
+        end = ticks();
+    } while (to.tv_sec - from.tv_sec < 1 && (to.tv_sec - from.tv_sec) * 1000000000 + to.tv_nsec - from.tv_nsec < 50000000);
+    known = ((double)(to.tv_sec - from.tv_sec) * 1e9 + (double)(to.tv_nsec - from.tv_nsec)) / (double)(end - begin);
+    return known;
+}
+
+/* The ticks of BATCH calls with the packets from `first` on. */
+static uint64_t batch(const struct load *l, call *subject, unsigned int first)
+{
+    const uint64_t begin = ticks();
+    for (unsigned int i = 0; i < BATCH; i++)
+        subject(l->packets + l->stride * ((first + i) & (l->count - 1)), l->size, l->table, l->table_len, l->out, l->out_len);
+    return ticks() - begin;
+}
+
+static int ascending(const void *a, const void *b)
+{
+    const uint64_t x = *(const uint64_t *)a, y = *(const uint64_t *)b;
+    return x < y ? -1 : x > y;
+}
+
+void measure_times(const struct load *l, call *const subjects[], unsigned int subject_count, double ns[])
+{
+    static uint64_t taken[SUBJECTS_MOST][ROUNDS_MOST];
+    unsigned int rounds = 0, first = 0;
+    const uint64_t begin = ticks();
+    while (rounds < ROUNDS_MOST && (rounds < ROUNDS_LEAST || ticks() - begin < TICKS)) {
+        /* each batch goes on where the last one stopped, so no subject finds packets that another has just read */
+        for (unsigned int s = 0; s < subject_count; s++, first += BATCH)
+            taken[s][rounds] = batch(l, subjects[s], first);
+        rounds++;
+    }
+    for (unsigned int s = 0; s < subject_count; s++) {
+        qsort(taken[s], rounds, sizeof taken[s][0], ascending);
+        ns[s] = (double)taken[s][rounds * PERCENTILE / 100] * ns_per_tick() / BATCH;
+    }
+}
+
+void measure_instructions(const struct load *l, call *subject, const char *label)
+{
+    /* through a pointer that the compiler cannot follow, so every subject is called in the same way; the first call is not counted */
+    call *volatile made = subject;
+    for (int i = 0; i < 2; i++) {
+        CALLGRIND_ZERO_STATS;
+        CALLGRIND_TOGGLE_COLLECT;
+        made(l->packets, l->size, l->table, l->table_len, l->out, l->out_len);
+        CALLGRIND_TOGGLE_COLLECT;
+    }
+    CALLGRIND_DUMP_STATS_AT(label);
+}
