@@ -117,7 +117,7 @@ target/tools/asan/%.o: tools/%.c $(wildcard tools/*.h) include/kawsarpa.h
 
 # the tool's sources read by clang-tidy, and its commands driven, with the sanitizers
 tool-test: tool second
-	clang-tidy --quiet $(tool_sources) -- $(tool_flags) $(CPPFLAGS)
+	clang-tidy --quiet $(tool_sources) -- $(tool_flags) $(CPPFLAGS) 2>&1 | sed '/^[0-9]* warnings generated\.$$/d' # those of system headers
 	tests/tools/tables.sh target/tools/kawsarpa-asan $(second)
 	tests/tools/captures.sh target/tools/kawsarpa-asan
 	python3 docs/trip.py | cmp - docs/trip.svg
