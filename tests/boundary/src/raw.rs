@@ -72,13 +72,13 @@ mod system {
     }
 }
 
-/// A function that the library exports.
 /// The fault of a table.
 pub fn table_fault(table: &[u8]) -> u64 {
     // SAFETY: a slice is what the header asks for: not null, valid for its count.
     unsafe { library::kawsarpa_table_fault(table.as_ptr(), table.len()) }
 }
 
+/// A call that the library exports.
 #[derive(Clone, Copy, Debug, PartialEq, Eq)]
 pub enum Export {
     Ipv6,
