@@ -1,25 +1,13 @@
 /*
  * The calls from C: one of each kind, two whole trips, some refusals, null pointers with a count of 0. Prints a line for each check.
  */
+#include "checks.h"
 #include "kawsarpa.h"
 #include "packets.h"
 #include "table.h"
 
 #include <stdio.h>
 #include <string.h>
-
-/* CHECKS */
-
-static unsigned int checks;
-static unsigned int failures;
-
-static void check(int holds, const char *subject, const char *claim)
-{
-    checks++;
-    if (!holds)
-        failures++;
-    printf("%s %s: %s\n", holds ? "ok" : "FAILED", subject, claim);
-}
 
 /* A CALL AND WHAT IT LEAVES */
 

@@ -2,22 +2,12 @@
  * kawsarpa_table_fault from C: for every condition a table that breaks it alone, the order in which conditions are tried, and the
  * words for each. Prints a line for each check.
  */
+#include "checks.h"
 #include "kawsarpa.h"
 #include "table.h"
 
 #include <stdio.h>
 #include <string.h>
-
-static unsigned int checks;
-static unsigned int failures;
-
-static void check(int holds, const char *subject, const char *claim)
-{
-    checks++;
-    if (!holds)
-        failures++;
-    printf("%s %s: %s\n", holds ? "ok" : "FAILED", subject, claim);
-}
 
 /* The table of calls.c with a second rule and a second policy. */
 struct twice {
