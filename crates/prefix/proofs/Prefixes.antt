@@ -3,7 +3,7 @@ use mathlib.Core.Path.{_≡_, refl, ap, sym, _∙_}
 use mathlib.Core.Bool.{Bool, true, false}
 use mathlib.Core.List.{List}
 use Prim.Native.Nat.{ℕ, _+_, _*_, _-_, _^_, _/_, _%_, _<_, _≤_}
-use native.Mathlib.Nat.{zero-add, mul-assoc, mul-add-div-right, mul-add-mod-self-right, mod-eq-of-lt, div-eq-of-lt, zero-div}
+use native.Mathlib.Nat.{add-zero, zero-add, zero-mul, mul-assoc, mul-mod-left, mul-add-div-right, mul-add-mod-self-right, mod-eq-of-lt, div-eq-of-lt, zero-div}
 use native.Mathlib.Omega.{arith}
 use borrow.Author.Tests.{eqb-true, eqb-false, eq-eqb, ne-eqb}
 use lib.Dec.{eqb}
@@ -112,3 +112,35 @@ module _ (p : List ℕ) (n m b : ℕ) (hp : number p n m < 2 ^ (8 * m)) where
   pub clear-set : b ≤ 8 * n → (number p n m ≡ 0 → ⊥) → clear (n + m) p b ≡ false
   unfolding clear
   clear-set l z = rw (remainder l) (ne-eqb (number p 0 n % 2 ^ (8 * n - b) * 2 ^ (8 * m) + number p n m) 0 (λ q. z (omega arith)))
+
+-- A PREFIX IN TWO WORDS
+
+-- a shift to the left drops the first bits of a word: the others are left where they are all 0 together
+pub dropped : (x a b : ℕ) → b + a ≡ 64 → eqb (x * 2 ^ a % 2 ^ 64) 0 ≡ eqb (x % 2 ^ b) 0
+dropped x a b e =
+    let l : x * 2 ^ a % 2 ^ (b + a) ≡ x % 2 ^ b * 2 ^ a = rw (mod-pow-add (x * 2 ^ a) b a, shl-shr x a, mul-mod-left x (2 ^ a)) (add-zero (x % 2 ^ b * 2 ^ a)) in
+    ap (λ (k : ℕ). eqb (x * 2 ^ a % 2 ^ k) 0) (sym e)
+    ∙ rw l (eqb-iff (x % 2 ^ b * 2 ^ a) 0 (x % 2 ^ b) 0 (λ q. zero-of (x % 2 ^ b) a q) (λ q. rw q (zero-mul (2 ^ a))))
+
+-- past the first word the second decides
+pub past-first : (h l b : ℕ) → 64 ≤ b → b ≤ 128 → (h * 2 ^ 64 + l) % 2 ^ (128 - b) ≡ l % 2 ^ (128 - b)
+past-first h l b lo hi =
+    let k : ℕ = 128 - b in
+    let f : 64 ≡ (64 - k) + k = omega arith in
+    ap (λ (x : ℕ). (h * 2 ^ x + l) % 2 ^ k) f
+    ∙ rw (pow-add 2 (64 - k) k, ← mul-assoc h (2 ^ (64 - k)) (2 ^ k)) (mul-add-mod-self-right (h * 2 ^ (64 - k)) (2 ^ k) l)
+
+-- within it the second has to be 0
+module _ (h l b : ℕ) (s : l < 2 ^ 64) (m : b ≤ 64) where
+  whole-second : (h * 2 ^ 64 + l) % 2 ^ (128 - b) ≡ h % 2 ^ (64 - b) * 2 ^ 64 + l
+  whole-second =
+      let e : 128 - b ≡ (64 - b) + 64 = omega arith in
+      rw (e, mod-pow-add (h * 2 ^ 64 + l) (64 - b) 64, high h 64 s, low h 64 s) refl
+
+  pub second-set : (l ≡ 0 → ⊥) → eqb ((h * 2 ^ 64 + l) % 2 ^ (128 - b)) 0 ≡ false
+  second-set z = rw whole-second (ne-eqb (h % 2 ^ (64 - b) * 2 ^ 64 + l) 0 (λ q. z (omega arith)))
+
+  pub second-clear : l ≡ 0 → eqb ((h * 2 ^ 64 + l) % 2 ^ (128 - b)) 0 ≡ eqb (h % 2 ^ (64 - b)) 0
+  second-clear z =
+      rw (whole-second, z)
+      (eqb-iff (h % 2 ^ (64 - b) * 2 ^ 64 + 0) 0 (h % 2 ^ (64 - b)) 0 (λ q. zero-of (h % 2 ^ (64 - b)) 64 (omega arith)) (λ q. omega arith))

@@ -1,7 +1,7 @@
 // Whether an address lies under a prefix, and whether the bits past a prefix are 0. Any number of bits is allowed: past those of an
 // address nothing changes.
 ghost use mathlib.Core.Path.{_≡_};
-ghost use Prim.Native.Nat.{_^_, _%_, _≤_, _<_};
+ghost use Prim.Native.Nat.{_+_, _-_, _*_, _^_, _%_, _≤_, _<_};
 ghost use lib.Dec.{eqb};
 ghost use lib.ListN.{length};
 ghost use Rattle.rules.specs.Prefix.{under, clear};
@@ -69,6 +69,25 @@ pub fn clear16(prefix: &[u8], bits: usize) -> bool
         return high == 0;
     }
     ends_clear(high, WORD_BITS - bits)
+}
+
+// The same of a prefix in two words: a shift drops the bits of the prefix, and what is left must be 0.
+pub fn words_clear(high: u64, low: u64, bits: usize) -> bool
+    ensures { λ r. ⌜ r ≡ eqb ((high * 2 ^ 64 + low) % 2 ^ (128 - bits)) 0 ⌝ }
+{
+    if WORD_BITS < bits {
+        if IPV6_BITS <= bits {
+            return true;
+        }
+        return low << (bits - WORD_BITS) == 0;
+    }
+    if low != 0 {
+        return false;
+    }
+    if bits == WORD_BITS {
+        return true;
+    }
+    high << bits == 0
 }
 
 // The same of an IPv4 prefix.

@@ -52,7 +52,7 @@ rules-none : (t : List ℕ) → eqb (rulesFault t) 0 ≡ all (λ k. ruleSound (r
 unfolding ruleBroken ruleSound
 rules-none t = none-first _ _ (λ k. none-told ruleRecord k (ruleBroken (ruleAt t k)) ∙ none-broken 0 (ruleConditions (ruleAt t k))) (rules t)
 
-rule-prefixes-none : (t : List ℕ) → eqb (rulePrefixesFault t) 0 ≡ distinct (sameRulePrefix t) (rules t)
+pub rule-prefixes-none : (t : List ℕ) → eqb (rulePrefixesFault t) 0 ≡ distinct (sameRulePrefix t) (rules t)
 unfolding distinct
 rule-prefixes-none t = none-first _ _ (λ j. none-told ruleRecord j (ruleRepeated t j) ∙ none-broken 11 (fresh (sameRulePrefix t) j ∷ []) ∙ and-true _) (rules t)
 
