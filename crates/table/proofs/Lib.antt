@@ -3,3 +3,4 @@ mod Conditions
 mod Longest
 mod Order
 mod Trying
+mod Surely

@@ -1,13 +1,13 @@
-// The first entry, and the first rule, whose prefix with its length an earlier one has.
+// Whether a prefix with its length occurs twice, and the first entry, or rule, whose prefix with its length an earlier one has.
 ghost use mathlib.Core.Path.{_≡_};
 ghost use mathlib.Core.Bool.{true, not};
 ghost use Prim.Native.Nat.{_+_, _*_, _≤_, _<_};
 ghost use lib.Dec.{ltb};
 ghost use lib.ListN.{length};
-ghost use Rattle.rules.specs.Table.{rulesAt, policiesAt};
+ghost use Rattle.rules.specs.Table.{rules, rulesAt, policiesAt};
 ghost use Rattle.rules.specs.Sound.{all, sameEntryPrefix, sameRulePrefix, distinct};
 ghost use Rattle.rules.specs.Fault.{entryRecord, entryRepeated, told, firstFault, entryPrefixesFault, rulePrefixesFault};
-ghost use Rattle.table.specs.Keys.{entryKey};
+ghost use Rattle.table.specs.Keys.{entryKey, ruleKeyOf};
 use crate::entry;
 use crate::faults;
 use crate::records;
@@ -43,10 +43,15 @@ fn precedes(table: &[u8], i: usize, j: usize) -> bool
     let q = entry::prefix_of(f);
     let p0 = numbers::eight(p, 0);
     let q0 = numbers::eight(q, 0);
+    if p0 != q0 {
+        return p0 < q0;
+    }
     let p8 = numbers::eight(p, 8);
     let q8 = numbers::eight(q, 8);
-    let shorter = e[entry::PREFIX_LENGTH] < f[entry::PREFIX_LENGTH];
-    (p0 < q0) | ((p0 == q0) & ((p8 < q8) | ((p8 == q8) & shorter)))
+    if p8 != q8 {
+        return p8 < q8;
+    }
+    e[entry::PREFIX_LENGTH] < f[entry::PREFIX_LENGTH]
 }
 
 // The first n entries stand in order, so that no prefix with its length occurs twice among them.
@@ -97,16 +102,22 @@ fn entry_pairs_fault(table: &[u8], n: usize) -> u64
     0
 }
 
-// Entries that stand in order are quick.
 pub fn entry_prefixes_fault(table: &[u8]) -> u64
     requires { ⌜ rulesAt (now table) ≤ length (now table) ⌝ }
     ensures { λ r. ⌜ r ≡ entryPrefixesFault (now (table .entry)) ⌝ }
 {
-    let n = records::entries(table);
+    entry_pairs_fault(table, records::entries(table))
+}
+
+// No prefix with its length occurs twice among the first n entries. Entries that stand in order are quick.
+pub(crate) fn entries_apart(table: &[u8], n: usize) -> bool
+    requires { ⌜ (16 + 64 * n ≤ length (now table)) × (n < 65536) ⌝ }
+    ensures { λ r. ⌜ r ≡ distinct (sameEntryPrefix (now (table .entry))) n ⌝ }
+{
     if ascending(table, n) {
-        return 0;
+        return true;
     }
-    entry_pairs_fault(table, n)
+    entry_pairs_fault(table, n) == 0
 }
 
 fn same_rule_prefix(table: &[u8], i: usize, j: usize) -> bool
@@ -147,4 +158,47 @@ pub fn rule_prefixes_fault(table: &[u8]) -> u64
         j += 1;
     }
     0
+}
+
+// Rule r stands before rule s: by the prefix, then by its length.
+fn rule_precedes(r: &[u8], s: &[u8]) -> bool
+    requires { ⌜ (length (now r) ≡ 160) × (length (now s) ≡ 160) ⌝ }
+    ensures { λ b. ⌜ b ≡ ltb (ruleKeyOf (now (r .entry))) (ruleKeyOf (now (s .entry))) ⌝ }
+{
+    let p = numbers::four(rule::prefix_of(r), 0);
+    let q = numbers::four(rule::prefix_of(s), 0);
+    if p != q {
+        return p < q;
+    }
+    r[rule::PREFIX_LENGTH] < s[rule::PREFIX_LENGTH]
+}
+
+// The first n rules, which begin at `start`, stand in order, so that no prefix with its length occurs twice among them.
+fn rules_ascending(table: &[u8], start: usize, n: usize) -> bool
+    requires { ⌜ (start ≡ rulesAt (now table)) × (start + 160 * n ≤ length (now table)) ⌝ }
+    ensures { λ r. ⌜ (r ≡ true → distinct (sameRulePrefix (now (table .entry))) n ≡ true) ⌝ }
+{
+    if n == 0 {
+        return true;
+    }
+    let mut i = 1;
+    while i < n {
+        let r = records::rule_from(table, start, i - 1);
+        if !rule_precedes(r, records::rule_from(table, start, i)) {
+            return false;
+        }
+        i += 1;
+    }
+    true
+}
+
+// The same of the table's rules, which are n and begin at `start`.
+pub(crate) fn rules_apart(table: &[u8], start: usize, n: usize) -> bool
+    requires { ⌜ (start ≡ rulesAt (now table)) × (start + 160 * n ≤ length (now table)) × (n ≡ rules (now table)) ⌝ }
+    ensures { λ r. ⌜ r ≡ distinct (sameRulePrefix (now (table .entry))) n ⌝ }
+{
+    if rules_ascending(table, start, n) {
+        return true;
+    }
+    rule_prefixes_fault(table) == 0
 }

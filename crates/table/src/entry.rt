@@ -1,13 +1,15 @@
-// A SID entry: where its fields lie, and which condition it breaks.
+// A SID entry: where its fields lie, whether it is sound, and which condition it breaks.
 ghost use mathlib.Core.Path.{_≡_};
+ghost use mathlib.Core.Bool.{true, _&&_};
 ghost use lib.ListN.{length};
-ghost use Rattle.rules.specs.Entry.{prefix};
-ghost use Rattle.rules.specs.Sound.{behaviourKnown, prefixClear, policyExists, prefixBeforeAddress};
+ghost use Rattle.rules.specs.Entry.{start, p, q, prefix};
+ghost use Rattle.rules.specs.Sound.{behaviourKnown, prefixClear, policyExists, startWithin, prefixBeforeArgs, pWithin, qWithin, prefixBeforeAddress, entrySound};
 ghost use Rattle.rules.specs.Fault.{entryBroken};
-ghost use Rattle.table.specs.Results.{Lent};
+ghost use Rattle.table.specs.Results.{Lent, Front};
 use crate::faults::unless;
 use crate::fields;
 use crate::records;
+use prefix::numbers;
 
 pub const BEHAVIOUR: usize = 0;
 
@@ -116,4 +118,76 @@ pub(crate) fn broken(e: &[u8], policies: usize) -> u8
     let from_3 = unless(prefix_clear(e), 3, from_4);
     let from_2 = unless(bits <= 128, 2, from_3);
     unless(behaviour_known(e), 1, from_2)
+}
+
+// The conditions of every behaviour, left at the first that fails.
+fn front_sound(e: &[u8]) -> bool
+    requires { ⌜ length (now e) ≡ 64 ⌝ }
+    ensures { λ r. ⌜ (r ≡ true → Front (now (e .entry))) ⌝ }
+{
+    let bits = e[PREFIX_LENGTH];
+    if 128 < bits {
+        return false;
+    }
+    if e[HOP_LIMIT] == 0 {
+        return false;
+    }
+    if e[RESERVED] != 0 {
+        return false;
+    }
+    prefix::words_clear(
+        numbers::eight(e, PREFIX),
+        numbers::eight(e, PREFIX + 8),
+        octets::wide(bits),
+    )
+}
+
+// What an E6 entry asks of the start of Args.
+fn start_sound(e: &[u8]) -> bool
+    requires { ⌜ length (now e) ≡ 64 ⌝ }
+    ensures { λ r. ⌜ r ≡ startWithin (start (now (e .entry))) && prefixBeforeArgs (now (e .entry)) ⌝ }
+{
+    fields::start_within(e[START]) & (e[PREFIX_LENGTH] <= e[START])
+}
+
+// What an E4 entry asks of its places.
+fn places_sound(e: &[u8]) -> bool
+    requires { ⌜ length (now e) ≡ 64 ⌝ }
+    ensures { λ r. ⌜ r ≡ pWithin (p (now (e .entry))) && (qWithin (q (now (e .entry))) && prefixBeforeAddress (now (e .entry))) ⌝ }
+{
+    (e[P] <= fields::P_MOST) & ((e[Q] <= fields::Q_MOST) & prefix_before_address(e))
+}
+
+// Only of a sound entry.
+pub(crate) fn surely_sound(e: &[u8], policies: usize) -> bool
+    requires { ⌜ length (now e) ≡ 64 ⌝ }
+    ensures { λ r. ⌜ (r ≡ true → entrySound policies (now (e .entry)) ≡ true) ⌝ }
+{
+    if !front_sound(e) {
+        return false;
+    }
+    let behaviour = e[BEHAVIOUR];
+    if behaviour == END {
+        return true;
+    }
+    if !fields::direction_known(e[DIRECTION]) {
+        return false;
+    }
+    if !fields::session_known(e[SESSION]) {
+        return false;
+    }
+    // D and Di are neighbours: two comparisons are fewer than a jump by table.
+    if behaviour <= END_M_GTP6_D_DI {
+        if behaviour < END_M_GTP6_D {
+            return false;
+        }
+        return octets::wide(e[POLICY]) < policies;
+    }
+    if behaviour == END_M_GTP6_E {
+        return start_sound(e);
+    }
+    if behaviour == END_M_GTP4_E {
+        return places_sound(e);
+    }
+    false
 }

@@ -8,6 +8,7 @@ pub mod rule; // rule.rt: an IPv4 rule
 pub mod policy; // policy.rt: a policy
 pub mod fields; // fields.rt: what fields of several kinds of record may hold
 mod apart; // apart.rt: records whose prefix with its length occurs twice
+mod quick; // quick.rt: a sound table told in one pass
 mod faults; // faults.rt: which condition of soundness a table breaks first
 mod matching; // matching.rt: the longest match
 
@@ -25,5 +26,8 @@ pub use records::rules;
 pub fn sound(table: &[u8]) -> bool
     ensures { λ r. ⌜ r ≡ sound (now (table .entry)) ⌝ }
 {
+    if quick::surely_sound(table) {
+        return true;
+    }
     fault(table) == 0
 }

@@ -1,6 +1,8 @@
-// A policy: where its fields lie, and which condition it breaks.
+// A policy: where its fields lie, whether it is sound, and which condition it breaks.
 ghost use mathlib.Core.Path.{_≡_};
+ghost use mathlib.Core.Bool.{true};
 ghost use lib.ListN.{length};
+ghost use Rattle.rules.specs.Sound.{policySound};
 ghost use Rattle.rules.specs.Fault.{policyBroken};
 use crate::faults::unless;
 use crate::fields;
@@ -21,4 +23,22 @@ pub(crate) fn broken(y: &[u8]) -> u8
     let from_3 = unless(y[RESERVED] == 0, 3, 0);
     let from_2 = unless(fields::start_within(y[START]), 2, from_3);
     unless((1 <= y[SID_COUNT]) & (y[SID_COUNT] <= 8), 1, from_2)
+}
+
+// Only of a sound policy.
+pub(crate) fn surely_sound(y: &[u8]) -> bool
+    requires { ⌜ length (now y) ≡ 288 ⌝ }
+    ensures { λ r. ⌜ (r ≡ true → policySound (now (y .entry)) ≡ true) ⌝ }
+{
+    let count = y[SID_COUNT];
+    if count == 0 {
+        return false;
+    }
+    if 8 < count {
+        return false;
+    }
+    if y[RESERVED] != 0 {
+        return false;
+    }
+    fields::start_within(y[START])
 }

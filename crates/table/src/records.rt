@@ -93,3 +93,18 @@ pub fn policy_at(table: &[u8], j: usize) -> &[u8]
 {
     part(table, policies_start(table) + POLICY_SIZE * j, POLICY_SIZE)
 }
+
+// The same where it is known where the rules, and the policies, begin.
+pub fn rule_from(table: &[u8], start: usize, k: usize) -> &[u8]
+    requires { ⌜ (start ≡ rulesAt (now table)) × (start + 160 * (k + 1) ≤ length (now table)) ⌝ }
+    ensures { λ r. ⌜ Lent (now r) (ruleAt (now (table .entry)) k) 160 ⌝ }
+{
+    part(table, start + RULE_SIZE * k, RULE_SIZE)
+}
+
+pub fn policy_from(table: &[u8], start: usize, j: usize) -> &[u8]
+    requires { ⌜ (start ≡ policiesAt (now table)) × (start + 288 * (j + 1) ≤ length (now table)) ⌝ }
+    ensures { λ r. ⌜ Lent (now r) (policyAt (now (table .entry)) j) 288 ⌝ }
+{
+    part(table, start + POLICY_SIZE * j, POLICY_SIZE)
+}

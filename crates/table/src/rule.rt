@@ -1,13 +1,15 @@
-// An IPv4 rule: where its fields lie, and which condition it breaks.
+// An IPv4 rule: where its fields lie, whether it is sound, and which condition it breaks.
 ghost use mathlib.Core.Path.{_≡_};
+ghost use mathlib.Core.Bool.{true};
 ghost use lib.ListN.{length};
 ghost use Rattle.rules.specs.Rule.{prefix};
-ghost use Rattle.rules.specs.Sound.{rulePrefixClear, sidPrefixClear, sourcePrefixClear};
+ghost use Rattle.rules.specs.Sound.{rulePrefixClear, sidPrefixClear, sourcePrefixClear, ruleSound};
 ghost use Rattle.rules.specs.Fault.{ruleBroken};
-ghost use Rattle.table.specs.Results.{Lent};
+ghost use Rattle.table.specs.Results.{Lent, Single};
 use crate::faults::unless;
 use crate::fields;
 use crate::records;
+use prefix::numbers;
 
 pub const PREFIX_LENGTH: usize = 0;
 
@@ -83,4 +85,60 @@ pub(crate) fn broken(r: &[u8]) -> u8
     let from_3 = unless(1 <= r[HOP_LIMIT], 3, from_4);
     let from_2 = unless(prefix_clear(r), 2, from_3);
     unless(r[PREFIX_LENGTH] <= 32, 1, from_2)
+}
+
+// The conditions on single octets, left at the first that fails.
+fn octets_sound(r: &[u8]) -> bool
+    requires { ⌜ length (now r) ≡ 160 ⌝ }
+    ensures { λ b. ⌜ (b ≡ true → Single (now (r .entry))) ⌝ }
+{
+    if 32 < r[PREFIX_LENGTH] {
+        return false;
+    }
+    if r[HOP_LIMIT] == 0 {
+        return false;
+    }
+    if !fields::direction_known(r[DIRECTION]) {
+        return false;
+    }
+    if !fields::session_known(r[SESSION]) {
+        return false;
+    }
+    if fields::P_MOST < r[P] {
+        return false;
+    }
+    if fields::Q_MOST < r[Q] {
+        return false;
+    }
+    if 7 < r[WAYPOINT_COUNT] {
+        return false;
+    }
+    r[RESERVED] == 0
+}
+
+// Only of a sound rule.
+pub(crate) fn surely_sound(r: &[u8]) -> bool
+    requires { ⌜ length (now r) ≡ 160 ⌝ }
+    ensures { λ b. ⌜ (b ≡ true → ruleSound (now (r .entry)) ≡ true) ⌝ }
+{
+    if !octets_sound(r) {
+        return false;
+    }
+    if !prefix_clear(r) {
+        return false;
+    }
+    let p = 8 * octets::wide(r[P]);
+    if !prefix::words_clear(
+        numbers::eight(r, SID_PREFIX),
+        numbers::eight(r, SID_PREFIX + 8),
+        p,
+    ) {
+        return false;
+    }
+    let q = 8 * octets::wide(r[Q]);
+    prefix::words_clear(
+        numbers::eight(r, SOURCE_PREFIX),
+        numbers::eight(r, SOURCE_PREFIX + 8),
+        q,
+    )
 }

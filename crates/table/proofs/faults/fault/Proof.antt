@@ -7,7 +7,7 @@ use lib.ListN.{length}
 use Rattle.rules.specs.Table.{tableSize}
 use Rattle.rules.specs.Sound.{entryLimit}
 use Rattle.rules.specs.Fault.{headerRecord, headerBroken, headerFault, entriesFault, entryPrefixesFault, rulesFault, rulePrefixesFault, policiesFault, told, orElse, faultWithin, fault}
-use Rattle.rules.proofs.Faults.{none-told, header-none}
+use Rattle.rules.proofs.Faults.{none-told, header-none, sound-faultless}
 use Rattle.table.proofs.Bounds.{header-size}
 use Rattle.table.proofs.Trying.{next, else-zero, else-fault, told-none}
 use borrow.Author.Needs.{needs}
@@ -15,12 +15,12 @@ use Rattle.table.proofs.faults.fault.Statement.{statement}
 use Rattle.table.proofs.faults.fault.Tie as tie
 
 -- where the header breaks no condition
-unbroken : (c : tie.Else1) → headerBroken entryLimit (c .before .before .before .args .table .now) ≡ 0
-unbroken c = sym (c .before .header-broken .ensures) ∙ c .if1 .left
+unbroken : (c : tie.Else2) → headerBroken entryLimit (c .before .before .before .before .before .args .table .now) ≡ 0
+unbroken c = sym (c .before .header-broken .ensures) ∙ c .if2 .left
 
-size : (c : tie.Else1) → length (c .before .before .before .args .table .now) ≡ tableSize (c .before .before .before .args .table .now)
+size : (c : tie.Else2) → length (c .before .before .before .before .before .args .table .now) ≡ tableSize (c .before .before .before .before .before .args .table .now)
 size c =
-    let t : List ℕ = c .before .before .before .args .table .now in
+    let t : List ℕ = c .before .before .before .before .before .args .table .now in
     header-size entryLimit t (sym (header-none entryLimit t) ∙ none-told headerRecord 0 (headerBroken entryLimit t) ∙ eq-eqb (headerBroken entryLimit t) 0 (unbroken c))
 
 headerless : (t : List ℕ) → headerBroken entryLimit t ≡ 0
@@ -31,11 +31,14 @@ headerless t e =
     ap (λ (f : ℕ). orElse f rest) (ap (told headerRecord 0) e ∙ told-none headerRecord 0) ∙ else-zero rest
 
 returns : tie.Need-returns
+returns c = sym (sound-faultless _ (c .before .surely-sound .ensures (c .if1 .taken)))
+
+returns-2 : tie.Need-returns-2
 unfolding faultWithin
-returns c =
+returns-2 c =
     let h = c .before .before in
-    let t : List ℕ = h .before .before .args .table .now in
-    let broken : headerBroken entryLimit t ≡ 0 → ⊥ = λ e. c .before .if1 .taken (h .header-broken .ensures ∙ e) in
+    let t : List ℕ = h .before .before .before .before .args .table .now in
+    let broken : headerBroken entryLimit t ≡ 0 → ⊥ = λ e. c .before .if2 .taken (h .header-broken .ensures ∙ e) in
     c .told .ensures ∙ ap (told headerRecord 0) (h .header-broken .ensures)
     ∙ sym (else-fault (headerFault entryLimit t) _ (none-told headerRecord 0 (headerBroken entryLimit t) ∙ ne-eqb (headerBroken entryLimit t) 0 broken))
 
@@ -54,8 +57,8 @@ rule-prefixes-fault-requires c κs = omega (arith, size (c .before .before .befo
 policies-fault-requires : tie.Need-policies-fault-requires
 policies-fault-requires c κs = omega (arith, size (c .before .before .before .before))
 
-returns-2 : tie.Need-returns-2
-returns-2 c =
+returns-3 : tie.Need-returns-3
+returns-3 c =
     let y = c .before .before .before .before in
     let u = y .before .before .before .before in
     next (u .entries-fault .ensures) (c .or-else4 .ensures)
@@ -69,8 +72,10 @@ fault-spec =
     tie.close
     (tie.spec
     (λ c κs. search needs)
-    (λ c κs. search needs)
     returns
+    (λ c κs. search needs)
+    (λ c κs. search needs)
+    returns-2
     entries-fault-requires
     entry-prefixes-fault-requires
     rules-fault-requires
@@ -80,4 +85,4 @@ fault-spec =
     (λ c κs. search needs)
     (λ c κs. search needs)
     (λ c κs. search needs)
-    returns-2)
+    returns-3)

@@ -1,0 +1,47 @@
+use mathlib.Core.Path.{_≡_, ap}
+use mathlib.Core.Bool.{true, false≢true}
+use mathlib.Core.List.{List}
+use Prim.Native.Nat.{ℕ, _≤_, _-_}
+use native.Mathlib.Omega.{arith}
+use borrow.Author.Tests.{not-false}
+use Rattle.rules.specs.Table.{ruleAt}
+use Rattle.rules.specs.Sound.{all, ruleSound}
+use Rattle.table.proofs.Conditions.{all-none, all-more, all-done}
+use borrow.Author.Needs.{needs}
+use Rattle.table.proofs.quick.rules_sound.Statement.{statement}
+use Rattle.table.proofs.quick.rules_sound.Tie as tie
+
+abbrev Inv-loop : tie.InvT-loop
+Inv-loop table start n k₀ k = (k ≤ n) × (all (λ k. ruleSound (ruleAt table k)) k ≡ true)
+
+abbrev μ-loop : tie.MeasureT-loop
+μ-loop table start n k₀ k = n - k
+
+loop-holds : tie.Need-loop-holds Inv-loop μ-loop
+loop-holds c = (search needs, all-none _)
+
+returns : tie.Need-returns Inv-loop μ-loop
+returns c = λ q. absurd (false≢true q)
+
+loop-again : tie.Need-loop-again Inv-loop μ-loop
+loop-again c =
+    let k = c .before .before .before .before in
+    (search needs, all-more _ (k .loop .k) (k .loop .inv .1) (rw (← c .before .before .rule-from .ensures .same) (c .before .surely-sound .ensures (not-false _ (c .if1 .left)))))
+
+returns-2 : tie.Need-returns-2 Inv-loop μ-loop
+returns-2 c = λ q. all-done _ _ _ (c .before .loop .inv .1) (omega arith)
+
+pub rules-sound-spec : {M : Type 1} → statement M
+rules-sound-spec =
+    tie.close
+    (tie.spec
+    Inv-loop
+    μ-loop
+    loop-holds
+    (λ c κs. search needs)
+    (λ c κs. search needs)
+    returns
+    (λ c. search needs)
+    (λ c. search needs)
+    loop-again
+    returns-2)

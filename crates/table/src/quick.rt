@@ -1,0 +1,117 @@
+// A sound table told in one pass: each condition is left at the first record that breaks it, and which one that is is not asked.
+ghost use mathlib.Core.Path.{_≡_};
+ghost use mathlib.Core.Bool.{true};
+ghost use Prim.Native.Nat.{_+_, _*_, _≤_, _<_};
+ghost use lib.ListN.{length};
+ghost use Rattle.rules.specs.Octets.{octet};
+ghost use Rattle.rules.specs.Table.{entries, rules, policies, rulesAt, policiesAt, entryAt, ruleAt, policyAt};
+ghost use Rattle.rules.specs.Sound.{all, entrySound, ruleSound, policySound, sound};
+use crate::apart;
+use crate::entry;
+use crate::faults;
+use crate::policy;
+use crate::records;
+use crate::rule;
+
+fn entries_sound(table: &[u8], n: usize, policies: usize) -> bool
+    requires { ⌜ 16 + 64 * n ≤ length (now table) ⌝ }
+    ensures { λ r. ⌜ (r ≡ true → all (λ i. entrySound policies (entryAt (now (table .entry)) i)) n ≡ true) ⌝ }
+{
+    let mut i = 0;
+    while i < n {
+        if !entry::surely_sound(records::entry_at(table, i), policies) {
+            return false;
+        }
+        i += 1;
+    }
+    true
+}
+
+fn rules_sound(table: &[u8], start: usize, n: usize) -> bool
+    requires { ⌜ (start ≡ rulesAt (now table)) × (start + 160 * n ≤ length (now table)) ⌝ }
+    ensures { λ r. ⌜ (r ≡ true → all (λ k. ruleSound (ruleAt (now (table .entry)) k)) n ≡ true) ⌝ }
+{
+    let mut k = 0;
+    while k < n {
+        if !rule::surely_sound(records::rule_from(table, start, k)) {
+            return false;
+        }
+        k += 1;
+    }
+    true
+}
+
+fn policies_sound(table: &[u8], start: usize, n: usize) -> bool
+    requires { ⌜ (start ≡ policiesAt (now table)) × (start + 288 * n ≤ length (now table)) ⌝ }
+    ensures { λ r. ⌜ (r ≡ true → all (λ j. policySound (policyAt (now (table .entry)) j)) n ≡ true) ⌝ }
+{
+    let mut j = 0;
+    while j < n {
+        if !policy::surely_sound(records::policy_from(table, start, j)) {
+            return false;
+        }
+        j += 1;
+    }
+    true
+}
+
+// The records of a table whose header names so many.
+fn records_sound(table: &[u8], n: usize, m: usize, q: usize) -> bool
+    requires { ⌜ (octet (now table) 0 ≡ 1) × (n ≡ entries (now table)) × (n ≤ 64) × (m ≡ rules (now table)) × (m ≤ 16) × (q ≡ policies (now table)) × (q ≤ 16) ⌝ }
+    ensures { λ r. ⌜ (r ≡ true → sound (now (table .entry)) ≡ true) ⌝ }
+{
+    let rules_start = records::HEADER_SIZE + records::ENTRY_SIZE * n;
+    let policies_start = rules_start + records::RULE_SIZE * m;
+    if table.len() != policies_start + records::POLICY_SIZE * q {
+        return false;
+    }
+    if !entries_sound(table, n, q) {
+        return false;
+    }
+    if !apart::entries_apart(table, n) {
+        return false;
+    }
+    if !rules_sound(table, rules_start, m) {
+        return false;
+    }
+    if !apart::rules_apart(table, rules_start, m) {
+        return false;
+    }
+    policies_sound(table, policies_start, q)
+}
+
+// Only of a sound table. The counts are at most 64 and 16, so that their high octets are 0.
+pub(crate) fn surely_sound(table: &[u8]) -> bool
+    ensures { λ r. ⌜ (r ≡ true → sound (now (table .entry)) ≡ true) ⌝ }
+{
+    if table.len() < records::HEADER_SIZE {
+        return false;
+    }
+    if table[0] != faults::FORMAT {
+        return false;
+    }
+    if table[2] != 0 {
+        return false;
+    }
+    if 64 < table[3] {
+        return false;
+    }
+    if table[4] != 0 {
+        return false;
+    }
+    if 16 < table[5] {
+        return false;
+    }
+    if table[6] != 0 {
+        return false;
+    }
+    if 16 < table[7] {
+        return false;
+    }
+    records_sound(
+        table,
+        octets::wide(table[3]),
+        octets::wide(table[5]),
+        octets::wide(table[7]),
+    )
+}
