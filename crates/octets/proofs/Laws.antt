@@ -56,6 +56,12 @@ pub chain : (o : List ℕ) (a : ℕ) (x y : List ℕ) {o₁ o₂ : List ℕ} {b 
 chain o a x y {o₁} {o₂} {b} e f n h =
     f ∙ ap (λ (l : List ℕ). splice l b y) e ∙ ap (λ (k : ℕ). splice (splice o a x) k y) n ∙ splice-next o a x y h
 
+-- the first d octets of s stand at a, and the n after them are put right after
+pub chain-part : (o s : List ℕ) (a d n : ℕ) {o₁ o₂ : List ℕ} → o₁ ≡ splice o a (take d s) → o₂ ≡ splice o₁ (a + d) (take n (drop d s)) → d ≤ length s → a ≤ length o
+    → o₂ ≡ splice o a (take (d + n) s)
+chain-part o s a d n e f h l =
+    chain o a (take d s) (take n (drop d s)) e f (ap (λ (k : ℕ). a + k) (sym (length-take-le d s h))) l ∙ ap (splice o a) (sym (take-add d n s))
+
 -- a run of stores
 pub sets-splice : (x o : List ℕ) (a : ℕ) → a + length x ≤ length o → sets o a x ≡ splice o a x
 unfolding splice

@@ -4,8 +4,8 @@ ghost use Prim.Native.Nat.{ℕ, _+_, _-_, _*_, _≤_, _<_};
 ghost use lib.ListN.{length, take, drop};
 ghost use Rattle.rules.specs.Octets.{octet, read16, window, splice};
 
-// All of src, into out from at on.
-pub fn copy_to(out: &mut [u8], at: usize, src: &[u8])
+// All of src, into out from at on, octet by octet.
+fn copy_octets(out: &mut [u8], at: usize, src: &[u8])
     requires { ⌜ at + length (now src) ≤ length (now out) ⌝ }
     ensures { λ _. ⌜ now (out .exit) ≡ splice (now (out .entry)) at (now (src .entry)) ⌝ }
 {
@@ -14,6 +14,46 @@ pub fn copy_to(out: &mut [u8], at: usize, src: &[u8])
         out[at + i] = src[i];
         i += 1;
     }
+}
+
+// More than the inner packet of a frame, so that one block is the rule.
+const BLOCK: usize = 2048;
+
+// All of src, a block at most, by way of an array: nothing overlaps that, so both loops compile to one memmove, and the array is gone.
+fn copy_block(out: &mut [u8], at: usize, src: &[u8])
+    requires { ⌜ (at + length (now src) ≤ length (now out)) × (length (now src) ≤ 2048) ⌝ }
+    ensures { λ _. ⌜ now (out .exit) ≡ splice (now (out .entry)) at (now (src .entry)) ⌝ }
+{
+    let mut block = [0u8; BLOCK];
+    copy_octets(&mut block, 0, src);
+    let n = src.len();
+    copy_octets(out, at, &block[0..n]);
+}
+
+// All of src, block after block.
+fn copy_blocks(out: &mut [u8], at: usize, src: &[u8])
+    requires { ⌜ at + length (now src) ≤ length (now out) ⌝ }
+    ensures { λ _. ⌜ now (out .exit) ≡ splice (now (out .entry)) at (now (src .entry)) ⌝ }
+{
+    let mut done = 0;
+    while BLOCK < src.len() - done {
+        let end = done + BLOCK;
+        copy_block(out, at + done, &src[done..end]);
+        done = end;
+    }
+    copy_block(out, at + done, &src[done..]);
+}
+
+// All of src, into out from at on.
+pub fn copy_to(out: &mut [u8], at: usize, src: &[u8])
+    requires { ⌜ at + length (now src) ≤ length (now out) ⌝ }
+    ensures { λ _. ⌜ now (out .exit) ≡ splice (now (out .entry)) at (now (src .entry)) ⌝ }
+{
+    if src.len() <= BLOCK {
+        copy_block(out, at, src);
+        return;
+    }
+    copy_blocks(out, at, src);
 }
 
 // What stands in src from at on, into out from to on.
@@ -83,21 +123,36 @@ pub fn window4(s: &[u8], at: usize) -> [u8; 4]
     a
 }
 
+// What is left of s from at on, at the front of out.
+fn copy_rest(out: &mut [u8], s: &[u8], at: usize)
+    requires { ⌜ length (now s) - at ≤ length (now out) ⌝ }
+    ensures { λ _. ⌜ now (out .exit) ≡ splice (now (out .entry)) 0 (drop at (now (s .entry))) ⌝ }
+{
+    if at < s.len() {
+        copy_octets(out, 0, &s[at..]);
+    }
+}
+
+// Sixteen octets where they lie.
+pub fn sixteen(s: &[u8], at: usize) -> &[u8]
+    requires { ⌜ at + 16 ≤ length (now s) ⌝ }
+    ensures { λ r. ⌜ (now r ≡ window (now (s .entry)) at 16) × (length (now r) ≡ 16) ⌝ }
+{
+    let past = at + 16;
+    &s[at..past]
+}
+
 // Sixteen octets by value.
 pub fn window16(s: &[u8], at: usize) -> [u8; 16]
     ensures { λ r. ⌜ r ≡ window (now (s .entry)) at 16 ⌝ }
 {
     let mut a = [0u8; 16];
-    if s.len() < 16 {
-        fill(&mut a, s, at);
-        return a;
-    }
-    if s.len() - 16 < at {
-        fill(&mut a, s, at);
+    if less(s.len(), at) < 16 {
+        copy_rest(&mut a, s, at);
         return a;
     }
     let end = at + 16;
-    copy_to(&mut a, 0, &s[at..end]);
+    copy_octets(&mut a, 0, &s[at..end]);
     a
 }
 
@@ -107,15 +162,15 @@ pub fn window20(s: &[u8], at: usize) -> [u8; 20]
 {
     let mut a = [0u8; 20];
     if s.len() < 20 {
-        fill(&mut a, s, at);
+        copy_rest(&mut a, s, at);
         return a;
     }
     if s.len() - 20 < at {
-        fill(&mut a, s, at);
+        copy_rest(&mut a, s, at);
         return a;
     }
     let end = at + 20;
-    copy_to(&mut a, 0, &s[at..end]);
+    copy_octets(&mut a, 0, &s[at..end]);
     a
 }
 
@@ -124,16 +179,12 @@ pub fn window24(s: &[u8], at: usize) -> [u8; 24]
     ensures { λ r. ⌜ r ≡ window (now (s .entry)) at 24 ⌝ }
 {
     let mut a = [0u8; 24];
-    if s.len() < 24 {
-        fill(&mut a, s, at);
-        return a;
-    }
-    if s.len() - 24 < at {
-        fill(&mut a, s, at);
+    if less(s.len(), at) < 24 {
+        copy_rest(&mut a, s, at);
         return a;
     }
     let end = at + 24;
-    copy_to(&mut a, 0, &s[at..end]);
+    copy_octets(&mut a, 0, &s[at..end]);
     a
 }
 
@@ -143,14 +194,14 @@ pub fn window48(s: &[u8], at: usize) -> [u8; 48]
 {
     let mut a = [0u8; 48];
     if s.len() < 48 {
-        fill(&mut a, s, at);
+        copy_rest(&mut a, s, at);
         return a;
     }
     if s.len() - 48 < at {
-        fill(&mut a, s, at);
+        copy_rest(&mut a, s, at);
         return a;
     }
     let end = at + 48;
-    copy_to(&mut a, 0, &s[at..end]);
+    copy_octets(&mut a, 0, &s[at..end]);
     a
 }

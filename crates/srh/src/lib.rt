@@ -129,8 +129,8 @@ pub fn put_reversed(out: &mut [u8], at: usize, s: &[u8], from: usize, n: usize)
 {
     let mut k = 0;
     while k < n {
-        let address = octets::window16(s, from + 16 * k);
-        octets::copy_to(out, at + 16 * (n - k - 1), &address);
+        let address = octets::sixteen(s, from + 16 * k);
+        octets::copy_to(out, at + 16 * (n - k - 1), address);
         k += 1;
     }
 }
