@@ -94,9 +94,11 @@ const MUTATIONS: u64 = 7;
 const ANY_LENGTH: usize = 70_000;
 /// Cases that `stack` looks through at most, for each case wanted.
 const TRIES_PER_CASE: u64 = 20_000;
-/// What a call may use of the stack: a quarter of the smallest stack that a
+/// What a call may use of the stack: an eighth of the smallest stack that a
 /// thread can have on Linux (PTHREAD_STACK_MIN, 16,384), so any thread can call.
-const STACK_BOUND: usize = 4096;
+/// It is also less than a call would use if the array by way of which
+/// `octets::copy_block` copies, 2,048 octets, were there in the object code.
+const STACK_BOUND: usize = 2048;
 
 fn help(out: &mut dyn Write, wanted: Option<&str>) -> io::Result<()> {
     out.write_all(if wanted.is_none() { ABOUT } else { "usage:\n" }.as_bytes())?;
