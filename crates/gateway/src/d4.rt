@@ -5,8 +5,8 @@ use crate::session;
 use table::rule;
 ghost use mathlib.Core.Path.{_≡_};
 ghost use mathlib.Core.Bool.{cond};
-ghost use mathlib.Core.List.{List, [], _∷_, _++_};
-ghost use Prim.Native.Nat.{ℕ, _+_, _-_, _*_, _≤_, _<_};
+ghost use mathlib.Core.List.{[], _∷_, _++_};
+ghost use Prim.Native.Nat.{_+_, _-_, _*_, _≤_, _<_};
 ghost use lib.Dec.{eqb};
 ghost use lib.ListN.{length, getD, drop};
 ghost use Rattle.rules.specs.Octets.{octet, window};
@@ -19,7 +19,7 @@ ghost use Rattle.rules.specs.Carried.{carried4};
 ghost use Rattle.rules.specs.Ipv6.{ipv6};
 ghost use Rattle.rules.specs.Srv6.{srv6};
 ghost use Rattle.rules.specs.E4.{startBehind};
-ghost use Rattle.rules.specs.D4.{header4, addressBehind, gtp4Rows, d4Packet, atD4};
+ghost use Rattle.rules.specs.D4.{addressBehind, gtp4Rows, d4Packet, atD4};
 ghost use Rattle.octets.specs.Run.{Run};
 ghost use Rattle.args.specs.Value.{value};
 ghost use Rattle.gateway.specs.Answered.{Answered};
@@ -54,12 +54,18 @@ fn judge(
     requires { ⌜ length (now r) ≡ 160 ⌝ }
     ensures { λ v. ⌜ v ≡ verdict (gtp4Rows h g ++ (messageRows g ++ (gPduRows (Rule.direction (now (r .entry))) g ++ innerRows (Rule.session (now (r .entry))) size first field))) ⌝ }
 {
-    let inner = gtpu::judge_inner(r[rule::SESSION], size, first, field);
-    let pdu = path::first_of(gtpu::judge_gpdu(r[rule::DIRECTION], g), inner);
-    path::first_of(
-        judge_tunnel(h, g),
-        path::first_of(gtpu::judge_message(g), pdu),
-    )
+    let tunnel = judge_tunnel(h, g);
+    match tunnel {
+        rules::Verdict::Refuse(z) => rules::Verdict::Refuse(z),
+        rules::Verdict::Pass => path::judge_datagram(
+            r[rule::DIRECTION],
+            r[rule::SESSION],
+            g,
+            size,
+            first,
+            field,
+        ),
+    }
 }
 
 // n octets of the prefix that stands in r at `at`, an IPv4 address, zeros.

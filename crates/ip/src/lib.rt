@@ -89,8 +89,10 @@ fn bad_srh(h: rules::Header) -> bool
 pub fn bad_chain(h: rules::Header) -> bool
     ensures { λ r. ⌜ r ≡ any (badChain h) ⌝ }
 {
-    (h.nextHeader == 0)
-        | ((h.nextHeader == 44) | ((h.nextHeader == 60) | ((h.nextHeader == 43) & bad_srh(h))))
+    if h.nextHeader == ROUTING_HEADER {
+        return bad_srh(h);
+    }
+    (h.nextHeader == 0) | ((h.nextHeader == 44) | (h.nextHeader == 60))
 }
 
 // LE beyond the segments held.
