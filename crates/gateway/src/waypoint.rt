@@ -1,16 +1,11 @@
 // The waypoint: End (RFC 8986, 4.1).
 use crate::answer::Answer;
 ghost use mathlib.Core.Path.{_≡_};
-ghost use mathlib.Core.List.{List, [], _∷_, _++_};
-ghost use Prim.Native.Nat.{ℕ, _+_, _-_, _*_, _≤_, _<_};
+ghost use Prim.Native.Nat.{_+_, _-_, _*_, _≤_, _<_};
 ghost use lib.ListN.{length};
 ghost use Rattle.rules.specs.Octets.{window};
-ghost use Rattle.rules.specs.Srh.{segment};
-ghost use Rattle.rules.specs.Header.{header};
-ghost use Rattle.rules.specs.Answer.{verdict, settle, Sent, overlay};
-ghost use Rattle.rules.specs.Waypoint.{routing, step, withRouting, forwarded, waypointRows, atWaypoint};
-ghost use Rattle.rules.specs.declared.Verdict.the-variants.{Pass};
-ghost use Rattle.srh.specs.State.{state};
+ghost use Rattle.rules.specs.Answer.{settle, Sent, overlay};
+ghost use Rattle.rules.specs.Waypoint.{withRouting, atWaypoint};
 ghost use Rattle.gateway.specs.Answered.{Answered};
 ghost use Rattle.gateway.specs.Sight.{Sight};
 

@@ -1,7 +1,7 @@
 // UDP (RFC 768), GTP-U (TS 29.281) and the PDU Session container (TS 38.415): what is read of a datagram, the tests of rows 8 to 15, and how a G-PDU is written.
 ghost use mathlib.Core.Path.{_≡_};
 ghost use mathlib.Core.List.{[], _∷_};
-ghost use Prim.Native.Nat.{ℕ, _+_, _*_, _/_, _≤_, _<_};
+ghost use Prim.Native.Nat.{_+_, _*_, _/_, _≤_, _<_};
 ghost use lib.Dec.{ltb};
 ghost use lib.ListN.{length, drop};
 ghost use Rattle.rules.specs.Assigned.{gPdu};

@@ -1,8 +1,8 @@
 // Octets of packets and buffers: read where they lie, 0 past the end, and copied. Nothing else touches them.
 ghost use mathlib.Core.Path.{_≡_};
-ghost use Prim.Native.Nat.{ℕ, _+_, _-_, _*_, _≤_, _<_};
-ghost use lib.ListN.{length, take, drop};
-ghost use Rattle.rules.specs.Octets.{octet, read16, window, splice};
+ghost use Prim.Native.Nat.{_+_, _-_, _*_, _≤_, _<_};
+ghost use lib.ListN.{length, drop};
+ghost use Rattle.rules.specs.Octets.{octet, window, splice};
 
 // All of src, into out from at on, octet by octet.
 fn copy_octets(out: &mut [u8], at: usize, src: &[u8])

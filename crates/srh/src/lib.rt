@@ -1,15 +1,13 @@
 // The Segment Routing Header (RFC 8754) and the routing state of a packet (RFC 8986, 4.1).
 ghost use mathlib.Core.Path.{_≡_};
 ghost use mathlib.Core.List.{[], _∷_};
-ghost use Prim.Native.Nat.{ℕ, _+_, _-_, _*_, _/_, _%_, _≤_, _<_};
+ghost use Prim.Native.Nat.{_+_, _-_, _*_, _≤_};
 ghost use lib.ListN.{length};
-ghost use Rattle.rules.specs.Octets.{window, splice};
 ghost use Rattle.rules.specs.Answer.{any, given, verdict};
 ghost use Rattle.rules.specs.Header.{beyondHeld};
 ghost use lib.Dec.{leb, ltb};
 ghost use mathlib.Core.Bool.{not};
 ghost use Rattle.rules.specs.Table.{addressesAt};
-ghost use Rattle.rules.specs.Ipv6.{ipv6};
 ghost use Rattle.rules.specs.Srh.{segments};
 ghost use Rattle.rules.specs.Waypoint.{routing, step, underway, stepRows};
 ghost use Rattle.octets.specs.Run.{Run};

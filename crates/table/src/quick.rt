@@ -1,7 +1,7 @@
 // A sound table told in one pass: each condition is left at the first record that breaks it, and which one that is is not asked.
 ghost use mathlib.Core.Path.{_≡_};
 ghost use mathlib.Core.Bool.{true};
-ghost use Prim.Native.Nat.{_+_, _*_, _≤_, _<_};
+ghost use Prim.Native.Nat.{_+_, _*_, _≤_};
 ghost use lib.ListN.{length};
 ghost use Rattle.rules.specs.Octets.{octet};
 ghost use Rattle.rules.specs.Table.{entries, rules, policies, rulesAt, policiesAt, entryAt, ruleAt, policyAt};
