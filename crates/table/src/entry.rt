@@ -158,7 +158,7 @@ fn places_sound(e: &[u8]) -> bool
     (e[P] <= fields::P_MOST) & ((e[Q] <= fields::Q_MOST) & prefix_before_address(e))
 }
 
-// Only of a sound entry.
+// True only of a sound entry; false says nothing.
 pub(crate) fn surely_sound(e: &[u8], policies: usize) -> bool
     requires { ⌜ length (now e) ≡ 64 ⌝ }
     ensures { λ r. ⌜ (r ≡ true → entrySound policies (now (e .entry)) ≡ true) ⌝ }

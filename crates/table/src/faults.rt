@@ -18,11 +18,11 @@ use crate::rule;
 
 pub(crate) const FORMAT: u8 = 1;
 
-const ENTRY_LIMIT: usize = 64;
+pub(crate) const ENTRY_LIMIT: usize = 64;
 
-const RULE_LIMIT: usize = 16;
+pub(crate) const RULE_LIMIT: usize = 16;
 
-const POLICY_LIMIT: usize = 16;
+pub(crate) const POLICY_LIMIT: usize = 16;
 
 // Kinds of record.
 const HEADER: u8 = 1;

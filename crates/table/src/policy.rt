@@ -25,7 +25,7 @@ pub(crate) fn broken(y: &[u8]) -> u8
     unless((1 <= y[SID_COUNT]) & (y[SID_COUNT] <= 8), 1, from_2)
 }
 
-// Only of a sound policy.
+// True only of a sound policy; false says nothing.
 pub(crate) fn surely_sound(y: &[u8]) -> bool
     requires { ⌜ length (now y) ≡ 288 ⌝ }
     ensures { λ r. ⌜ (r ≡ true → policySound (now (y .entry)) ≡ true) ⌝ }

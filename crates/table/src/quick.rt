@@ -1,4 +1,4 @@
-// A sound table told in one pass: each condition is left at the first record that breaks it, and which one that is is not asked.
+// A sound table told in one pass. A test is left at the first condition that fails, and which one that was is not kept.
 ghost use mathlib.Core.Path.{_≡_};
 ghost use mathlib.Core.Bool.{true};
 ghost use Prim.Native.Nat.{_+_, _*_, _≤_};
@@ -55,7 +55,7 @@ fn policies_sound(table: &[u8], start: usize, n: usize) -> bool
     true
 }
 
-// The records of a table whose header names so many.
+// The records of a table whose header names n entries, m rules and q policies.
 fn records_sound(table: &[u8], n: usize, m: usize, q: usize) -> bool
     requires { ⌜ (octet (now table) 0 ≡ 1) × (n ≡ entries (now table)) × (n ≤ 64) × (m ≡ rules (now table)) × (m ≤ 16) × (q ≡ policies (now table)) × (q ≤ 16) ⌝ }
     ensures { λ r. ⌜ (r ≡ true → sound (now (table .entry)) ≡ true) ⌝ }
@@ -80,7 +80,7 @@ fn records_sound(table: &[u8], n: usize, m: usize, q: usize) -> bool
     policies_sound(table, policies_start, q)
 }
 
-// Only of a sound table. The counts are at most 64 and 16, so that their high octets are 0.
+// True only of a sound table; false says nothing. The counts are at most 64 and 16, so that their high octets are 0.
 pub(crate) fn surely_sound(table: &[u8]) -> bool
     ensures { λ r. ⌜ (r ≡ true → sound (now (table .entry)) ≡ true) ⌝ }
 {
@@ -93,25 +93,23 @@ pub(crate) fn surely_sound(table: &[u8]) -> bool
     if table[2] != 0 {
         return false;
     }
-    if 64 < table[3] {
-        return false;
-    }
     if table[4] != 0 {
-        return false;
-    }
-    if 16 < table[5] {
         return false;
     }
     if table[6] != 0 {
         return false;
     }
-    if 16 < table[7] {
+    let n = octets::wide(table[3]);
+    if faults::ENTRY_LIMIT < n {
         return false;
     }
-    records_sound(
-        table,
-        octets::wide(table[3]),
-        octets::wide(table[5]),
-        octets::wide(table[7]),
-    )
+    let m = octets::wide(table[5]);
+    if faults::RULE_LIMIT < m {
+        return false;
+    }
+    let q = octets::wide(table[7]);
+    if faults::POLICY_LIMIT < q {
+        return false;
+    }
+    records_sound(table, n, m, q)
 }

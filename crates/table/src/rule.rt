@@ -116,7 +116,7 @@ fn octets_sound(r: &[u8]) -> bool
     r[RESERVED] == 0
 }
 
-// Only of a sound rule.
+// True only of a sound rule; false says nothing.
 pub(crate) fn surely_sound(r: &[u8]) -> bool
     requires { ⌜ length (now r) ≡ 160 ⌝ }
     ensures { λ b. ⌜ (b ≡ true → ruleSound (now (r .entry)) ≡ true) ⌝ }

@@ -24,9 +24,6 @@ returns c = λ q. rw (c .if1 .taken) (distinct-none _)
 loop-holds : tie.Need-loop-holds Inv-loop μ-loop
 loop-holds c = (search needs, search needs, ascends-one _ _ (other-rule-key _))
 
-returns-2 : tie.Need-returns-2 Inv-loop μ-loop
-returns-2 c = λ q. absurd (false≢true q)
-
 loop-again : tie.Need-loop-again Inv-loop μ-loop
 loop-again c =
     let k = c .before .before .before .before .before in
@@ -51,7 +48,7 @@ rules-ascending-spec =
     (λ c κs. search needs)
     (λ c κs. search needs)
     (λ c κs. search needs)
-    returns-2
+    (λ c q. absurd (false≢true q))
     (λ c. search needs)
     (λ c. search needs)
     loop-again

@@ -22,20 +22,8 @@ direction c = sym (c .before .direction-known .ensures) ∙ not-false _ (c .if3 
 session : (c : tie.Else4) → sessionKnown (octet (now (c .before .before .before .before .before .before .before .before .before .before .before .args .e)) 4) ≡ true
 session c = sym (c .before .session-known .ensures) ∙ not-false _ (c .if4 .left)
 
-returns : tie.Need-returns
-returns c = λ q. absurd (false≢true q)
-
 returns-2 : tie.Need-returns-2
 returns-2 c = λ q. sound-end _ _ (front (c .before .before)) (c .if2 .taken)
-
-returns-3 : tie.Need-returns-3
-returns-3 c = λ q. absurd (false≢true q)
-
-returns-4 : tie.Need-returns-4
-returns-4 c = λ q. absurd (false≢true q)
-
-returns-5 : tie.Need-returns-5
-returns-5 c = λ q. absurd (false≢true q)
 
 returns-6 : tie.Need-returns-6
 returns-6 c = λ q.
@@ -58,24 +46,21 @@ returns-8 c = λ q.
     let f = front (c₃ .before .before .before .before .before) in
     sound-e4 _ _ f (direction c₃) (session c₄) (c .before .if8 .taken) (sym (c .places-sound .ensures) ∙ q)
 
-returns-9 : tie.Need-returns-9
-returns-9 c = λ q. absurd (false≢true q)
-
 pub surely-sound-spec : {M : Type 1} → statement M
 surely-sound-spec =
     tie.close
     (tie.spec
     (λ c κs. search needs)
-    returns
+    (λ c q. absurd (false≢true q))
     (λ c. search needs)
     returns-2
     (λ c. search needs)
     (λ c κs. search needs)
-    returns-3
+    (λ c q. absurd (false≢true q))
     (λ c. search needs)
     (λ c κs. search needs)
-    returns-4
-    returns-5
+    (λ c q. absurd (false≢true q))
+    (λ c q. absurd (false≢true q))
     (λ c. search needs)
     (λ c κs. search needs)
     returns-6
@@ -83,4 +68,4 @@ surely-sound-spec =
     returns-7
     (λ c κs. search needs)
     returns-8
-    returns-9)
+    (λ c q. absurd (false≢true q)))

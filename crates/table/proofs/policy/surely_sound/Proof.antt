@@ -11,15 +11,6 @@ use borrow.Author.Needs.{needs}
 use Rattle.table.proofs.policy.surely_sound.Statement.{statement}
 use Rattle.table.proofs.policy.surely_sound.Tie as tie
 
-returns : tie.Need-returns
-returns c = λ q. absurd (false≢true q)
-
-returns-2 : tie.Need-returns-2
-returns-2 c = λ q. absurd (false≢true q)
-
-returns-3 : tie.Need-returns-3
-returns-3 c = λ q. absurd (false≢true q)
-
 returns-4 : tie.Need-returns-4
 returns-4 c = λ q.
     let y : List ℕ = now (c .before .before .before .before .before .before .before .before .args .y) in
@@ -30,10 +21,10 @@ surely-sound-spec =
     tie.close
     (tie.spec
     (λ c. search needs)
-    returns
-    returns-2
+    (λ c q. absurd (false≢true q))
+    (λ c q. absurd (false≢true q))
     (λ c. search needs)
-    returns-3
+    (λ c q. absurd (false≢true q))
     (λ c. search needs)
     (λ c κs. search needs)
     returns-4)

@@ -6,21 +6,6 @@ use borrow.Author.Needs.{needs}
 use Rattle.table.proofs.quick.records_sound.Statement.{statement}
 use Rattle.table.proofs.quick.records_sound.Tie as tie
 
-returns : tie.Need-returns
-returns c = λ q. absurd (false≢true q)
-
-returns-2 : tie.Need-returns-2
-returns-2 c = λ q. absurd (false≢true q)
-
-returns-3 : tie.Need-returns-3
-returns-3 c = λ q. absurd (false≢true q)
-
-returns-4 : tie.Need-returns-4
-returns-4 c = λ q. absurd (false≢true q)
-
-returns-5 : tie.Need-returns-5
-returns-5 c = λ q. absurd (false≢true q)
-
 returns-6 : tie.Need-returns-6
 returns-6 c = λ r.
     let c₅ = c .before in
@@ -47,14 +32,14 @@ records-sound-spec =
     (λ c. search needs)
     (λ c. search needs)
     (λ c. search needs)
-    returns
+    (λ c q. absurd (false≢true q))
     (λ c κs. search needs)
-    returns-2
+    (λ c q. absurd (false≢true q))
     (λ c κs. search needs)
-    returns-3
+    (λ c q. absurd (false≢true q))
     (λ c κs. search needs)
-    returns-4
+    (λ c q. absurd (false≢true q))
     (λ c κs. search needs)
-    returns-5
+    (λ c q. absurd (false≢true q))
     (λ c κs. search needs)
     returns-6)

@@ -20,9 +20,6 @@ abbrev μ-loop : tie.MeasureT-loop
 loop-holds : tie.Need-loop-holds Inv-loop μ-loop
 loop-holds c = (search needs, all-none _)
 
-returns : tie.Need-returns Inv-loop μ-loop
-returns c = λ q. absurd (false≢true q)
-
 loop-again : tie.Need-loop-again Inv-loop μ-loop
 loop-again c =
     let k = c .before .before .before .before in
@@ -40,7 +37,7 @@ rules-sound-spec =
     loop-holds
     (λ c κs. search needs)
     (λ c κs. search needs)
-    returns
+    (λ c q. absurd (false≢true q))
     (λ c. search needs)
     (λ c. search needs)
     loop-again

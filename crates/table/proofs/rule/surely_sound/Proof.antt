@@ -11,15 +11,6 @@ use borrow.Author.Needs.{needs}
 use Rattle.table.proofs.rule.surely_sound.Statement.{statement}
 use Rattle.table.proofs.rule.surely_sound.Tie as tie
 
-returns : tie.Need-returns
-returns c = λ q. absurd (false≢true q)
-
-returns-2 : tie.Need-returns-2
-returns-2 c = λ q. absurd (false≢true q)
-
-returns-3 : tie.Need-returns-3
-returns-3 c = λ q. absurd (false≢true q)
-
 returns-4 : tie.Need-returns-4
 returns-4 c = λ q.
     let c₃ = c .before .before .before .before .before in
@@ -38,9 +29,9 @@ surely-sound-spec =
     tie.close
     (tie.spec
     (λ c κs. search needs)
-    returns
+    (λ c q. absurd (false≢true q))
     (λ c κs. search needs)
-    returns-2
+    (λ c q. absurd (false≢true q))
     (λ c. search needs)
     (λ c κs. search needs)
     (λ c. search needs)
@@ -48,7 +39,7 @@ surely-sound-spec =
     (λ c. search needs)
     (λ c κs. search needs)
     (λ c κs. search needs)
-    returns-3
+    (λ c q. absurd (false≢true q))
     (λ c. search needs)
     (λ c κs. search needs)
     (λ c. search needs)
