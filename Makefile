@@ -4,7 +4,7 @@ SHELL := bash
 .SHELLFLAGS := -eu -o pipefail -c
 .DELETE_ON_ERROR:
 .NOTPARALLEL:
-.PHONY: all prove test ci toolchain tools format second staticlib library programs boundary fuzz mutants peers tool tool-test demo demo-packages bench bench-packages clean
+.PHONY: all prove test ci toolchain tools format second staticlib library programs boundary fuzz mutants peers tool tool-test demo demo-packages bench bench-proofs bench-packages clean
 
 archive := target/staticlib/libkawsarpa.a
 second := tests/second/target/release/second
@@ -133,6 +133,11 @@ demo-packages:
 bench: bench-packages staticlib
 	cargo build --release --offline --quiet --manifest-path tests/second/Cargo.toml
 	bench/run.sh $(archive) $(second) target/bench
+
+# what the check of each crate takes, in seconds and memory, one at a time and from nothing
+bench-proofs: toolchain
+	$(call install,python3:python3)
+	python3 -B bench/check.py .
 
 bench-packages:
 	$(call install,gcc:gcc nm:binutils cargo:cargo valgrind:valgrind /usr/include/valgrind/callgrind.h:valgrind python3:python3)
