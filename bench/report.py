@@ -90,7 +90,7 @@ def print_parts(counts, executed, functions):
             for total, name, sums in sorted(parts, reverse=True):
                 print(f"{total:>7}  {name:36} {sums}")
             if left:
-                print(f"{left:>7}  memcpy of the C library")
+                print(f"{left:>7}  memcpy and memmove of the C library")
 
 
 def print_targets(counts):
