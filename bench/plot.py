@@ -68,13 +68,19 @@ def growth_panel(title, places, series, left, top, width, height):
                 drawn += [line(left + 52, up(tick), left + width - 70, up(tick)), text(left + 46, up(tick) + 4, f"{tick:,}", "end")]
     for place in places:
         drawn.append(text(across(place), top + height + 18, f"{place:,}", "middle"))
+    ends = []
     for name, subject, values, dash in series:
         colour = COLOURS[subject]
         points = [(across(p), up(v)) for p, v in zip(places, values)]
         for (x1, y1), (x2, y2) in zip(points, points[1:]):
             drawn.append(line(x1, y1, x2, y2, colour, 2, dash))
         drawn += [f'<circle cx="{x:.1f}" cy="{y:.1f}" r="3.5" fill="{colour}"/>' for x, y in points]
-        drawn.append(text(points[-1][0] + 8, points[-1][1] + 4, name, colour=colour))
+        ends.append((points[-1][1] + 4, points[-1][0] + 8, name, colour))
+    below = 0.0
+    for y, x, name, colour in sorted(ends):
+        below = max(y, below)  # names of lines that end close together stand one below the other
+        drawn.append(text(x, below, name, colour=colour))
+        below += SIZE + 1
     return drawn
 
 
