@@ -1,8 +1,8 @@
 -- That a record is sound, from what code tested of it.
-use mathlib.Core.Path.{_≡_, refl, sym, ap, _∙_}
-use mathlib.Core.Bool.{Bool, true, false, not, _&&_, _||_}
+use mathlib.Core.Path.{_≡_, refl, _∙_}
+use mathlib.Core.Bool.{Bool, true, false, _&&_}
 use mathlib.Core.List.{List}
-use Prim.Native.Nat.{ℕ, zero, suc, _+_, _-_, _*_, _^_, _%_, _≤_, _<_}
+use Prim.Native.Nat.{ℕ, zero, suc, _+_, _-_, _*_, _^_, _%_, _≤_}
 use native.Mathlib.Nat.{zero-add}
 use native.Mathlib.Omega.{arith}
 use native.Mathlib.Decide.{ℕ-discrete}
@@ -15,7 +15,7 @@ use Rattle.rules.specs.Assigned.{end, endMGtp6E, endMGtp4E}
 use Rattle.rules.specs.Table.{entries, rules, policies, tableSize, entryAt, ruleAt, policyAt}
 use Rattle.rules.specs.Entry as Entry
 use Rattle.rules.specs.Policy as Policy
-use Rattle.rules.specs.Sound.{all, distinct, whereUsed, sameEntryPrefix, sameRulePrefix, entryLimit, headerConditions, headerSound, soundWithin, sound, usesSession, usesPolicy, usesStart, usesPlaces, directionKnown, sessionKnown, startWithin, prefixBeforeArgs, pWithin, qWithin, prefixBeforeAddress, reservedClear, entryConditions, entrySound, rulePrefixClear, sidPrefixClear, sourcePrefixClear, ruleConditions, ruleSound, policyConditions, policySound}
+use Rattle.rules.specs.Sound.{all, distinct, whereUsed, sameEntryPrefix, sameRulePrefix, entryLimit, headerConditions, headerSound, soundWithin, sound, usesSession, usesPolicy, usesStart, usesPlaces, behaviourKnown, directionKnown, sessionKnown, startWithin, prefixBeforeArgs, pWithin, qWithin, prefixBeforeAddress, reservedClear, entryConditions, entrySound, rulePrefixClear, sidPrefixClear, sourcePrefixClear, ruleConditions, ruleSound, policyConditions, policySound}
 use Rattle.rules.proofs.Conditions.{and-left, and-right}
 use Rattle.rules.proofs.Windows.{octet-window}
 use Rattle.prefix.proofs.Words.{number-parts}
@@ -50,18 +50,19 @@ module _ (n : ℕ) (e : List ℕ) (f : Front e) where
       (rw b refl, (f .bits, (f .clear, (f .hopLimit, (rw b refl, (rw b refl, (rw b refl, (rw b refl, (rw b refl, (rw b refl, (rw b refl, (rw b refl, (f .reserved, tt)))))))))))))
 
   module _ (d : directionKnown (Entry.direction e) ≡ true) (s : sessionKnown (Entry.session e) ≡ true) where
-    pub sound-gtp6d : 69 ≤ Entry.behaviour e → Entry.behaviour e ≤ 70 → ltb (Entry.policy e) n ≡ true → entrySound n e ≡ true
+    sound-named : behaviourKnown e ≡ true → usesStart e ≡ false → usesPlaces e ≡ false → ltb (Entry.policy e) n ≡ true → entrySound n e ≡ true
     unfolding entrySound
+    sound-named k a b p =
+        holds-every (entryConditions n e)
+        (k, (f .bits, (f .clear, (f .hopLimit, (used (usesSession e) _ d, (used (usesSession e) _ s, (used (usesPolicy e) _ p, (rw a refl, (rw a refl, (rw b refl, (rw b refl, (rw b refl, (f .reserved, tt)))))))))))))
+
+    -- the behaviours of D and Di are neighbours
+    pub sound-gtp6d : 69 ≤ Entry.behaviour e → Entry.behaviour e ≤ 70 → ltb (Entry.policy e) n ≡ true → entrySound n e ≡ true
     sound-gtp6d least most p = pick (ℕ-discrete (Entry.behaviour e) 69)
       where
         pick : Dec (Entry.behaviour e ≡ 69) → entrySound n e ≡ true
-        pick (yes b) =
-            holds-every (entryConditions n e)
-            (rw b refl, (f .bits, (f .clear, (f .hopLimit, (used (usesSession e) _ d, (used (usesSession e) _ s, (used (usesPolicy e) _ p, (rw b refl, (rw b refl, (rw b refl, (rw b refl, (rw b refl, (f .reserved, tt)))))))))))))
-        pick (no a) =
-            let b : Entry.behaviour e ≡ 70 = omega arith in
-            holds-every (entryConditions n e)
-            (rw b refl, (f .bits, (f .clear, (f .hopLimit, (used (usesSession e) _ d, (used (usesSession e) _ s, (used (usesPolicy e) _ p, (rw b refl, (rw b refl, (rw b refl, (rw b refl, (rw b refl, (f .reserved, tt)))))))))))))
+        pick (yes b) = sound-named (rw b refl) (rw b refl) (rw b refl) p
+        pick (no a) = let b : Entry.behaviour e ≡ 70 = omega arith in sound-named (rw b refl) (rw b refl) (rw b refl) p
 
     pub sound-e6 : Entry.behaviour e ≡ endMGtp6E → startWithin (Entry.start e) && prefixBeforeArgs e ≡ true → entrySound n e ≡ true
     unfolding entrySound

@@ -1,4 +1,4 @@
-use mathlib.Core.Path.{refl, sym, _∙_}
+use mathlib.Core.Path.{sym}
 use Rattle.rules.proofs.Faults.{entry-prefixes-none}
 use borrow.Author.Needs.{needs}
 use Rattle.table.proofs.apart.entries_apart.Statement.{statement}
