@@ -29,5 +29,5 @@ pub fn sound(table: &[u8]) -> bool
     if quick::surely_sound(table) {
         return true;
     }
-    fault(table) == 0
+    faults::look_for_fault(table) == 0
 }
