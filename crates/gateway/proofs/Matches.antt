@@ -24,12 +24,14 @@ use Rattle.rules.specs.D.{atD}
 use Rattle.rules.specs.Di.{atDi}
 use Rattle.rules.specs.E6.{atE6}
 use Rattle.rules.specs.E4.{atE4}
-use Rattle.rules.specs.Calls.{atEntry, atFoundEntry, atFoundRule, frontRows6, frontRows4, decide6, decide4, translate6, translate4}
+use Rattle.rules.specs.Calls.{atEntry, atFoundEntry, atFoundRule, frontRows6, frontRows4, translate6, translate4}
 use Rattle.rules.specs.declared.Header.{Header}
 use Rattle.rules.specs.declared.Header4.{Header4}
 use Rattle.rules.proofs.Conditions.{conjunct}
 use Rattle.rules.proofs.Rows.{Clear, any-clear, read}
 use Rattle.gateway.specs.Sight.{Sight, Sight4}
+use Rattle.rules.proofs.Deciding.{settled6, settled4}
+use Rattle.rules.proofs.Entries.{at-waypoint, at-d, at-di, at-e6, at-e4}
 use Rattle.gateway.proofs.Settling.{refuse-settles, pass-settles}
 
 -- THE FRONT OF A PACKET
@@ -64,56 +66,44 @@ last-behaviour policies e h h₁ h₂ h₃ h₄ =
 
 module _ (t e p : List ℕ) where
   pub at-end : Entry.behaviour e ≡ end → atWaypoint p ≡ atEntry t e p
-  unfolding atEntry
-  at-end b = rw b
+  at-end b = sym (at-waypoint t e p b)
 
   pub at-d-entry : Entry.behaviour e ≡ endMGtp6D → atD e (policyAt t (Entry.policy e)) p ≡ atEntry t e p
-  unfolding atEntry
-  at-d-entry b = rw b
+  at-d-entry b = sym (at-d t e p b)
 
   pub at-di-entry : Entry.behaviour e ≡ endMGtp6DDi → atDi e (policyAt t (Entry.policy e)) p ≡ atEntry t e p
-  unfolding atEntry
-  at-di-entry b = rw b
+  at-di-entry b = sym (at-di t e p b)
 
   pub at-e6-entry : Entry.behaviour e ≡ endMGtp6E → atE6 e p ≡ atEntry t e p
-  unfolding atEntry
-  at-e6-entry b = rw b
+  at-e6-entry b = sym (at-e6 t e p b)
 
   pub at-e4-entry : Entry.behaviour e ≡ endMGtp4E → atE4 e p ≡ atEntry t e p
-  unfolding atEntry
-  at-e4-entry b = rw b
+  at-e4-entry b = sym (at-e4 t e p b)
 
 -- THE FRONT ROWS
 
 module _ (p t : List ℕ) (room : ℕ) where
   pub unsound6 : sound t ≡ false → translate6 p t room ≡ Refused (plain 1)
-  unfolding translate6 decide6 frontRows6 verdict settle
-  unsound6 h = rw h
+  unsound6 h = settled6 p t room ∙ refuse-settles room (frontRows6 t (header p)) _ (plain 1) (unfold frontRows6 verdict in rw h)
 
   pub unsound4 : sound t ≡ false → translate4 p t room ≡ Refused (plain 1)
-  unfolding translate4 decide4 frontRows4 verdict settle
-  unsound4 h = rw h
+  unsound4 h = settled4 p t room ∙ refuse-settles room (frontRows4 t (header4 p)) _ (plain 1) (unfold frontRows4 verdict in rw h)
 
   module _ (s : sound t ≡ true) where
     pub malformed6 : any (malformed (header p)) ≡ true → translate6 p t room ≡ Refused (plain 2)
-    unfolding translate6 decide6
-    malformed6 h = refuse-settles room (frontRows6 t (header p)) _ (plain 2) (unfold frontRows6 verdict in rw (s, h))
+    malformed6 h = settled6 p t room ∙ refuse-settles room (frontRows6 t (header p)) _ (plain 2) (unfold frontRows6 verdict in rw (s, h))
 
     pub matched6 : any (malformed (header p)) ≡ false → settle room (atFoundEntry t p (matchEntry t (Ipv6.destination p))) ≡ translate6 p t room
-    unfolding translate6 decide6
-    matched6 h = sym (pass-settles room (frontRows6 t (header p)) _ (unfold frontRows6 verdict in rw (s, h)))
+    matched6 h = sym (settled6 p t room ∙ pass-settles room (frontRows6 t (header p)) _ (unfold frontRows6 verdict in rw (s, h)))
 
     pub malformed-4 : any (malformed4 (header4 p)) ≡ true → translate4 p t room ≡ Refused (plain 2)
-    unfolding translate4 decide4
-    malformed-4 h = refuse-settles room (frontRows4 t (header4 p)) _ (plain 2) (unfold frontRows4 verdict in rw (s, h))
+    malformed-4 h = settled4 p t room ∙ refuse-settles room (frontRows4 t (header4 p)) _ (plain 2) (unfold frontRows4 verdict in rw (s, h))
 
     pub bad-4 : any (malformed4 (header4 p)) ≡ false → any (badHeader4 (header4 p)) ≡ true → translate4 p t room ≡ Refused (plain 3)
-    unfolding translate4 decide4
-    bad-4 h b = refuse-settles room (frontRows4 t (header4 p)) _ (plain 3) (unfold frontRows4 verdict in rw (s, h, b))
+    bad-4 h b = settled4 p t room ∙ refuse-settles room (frontRows4 t (header4 p)) _ (plain 3) (unfold frontRows4 verdict in rw (s, h, b))
 
     pub matched4 : any (malformed4 (header4 p)) ≡ false → any (badHeader4 (header4 p)) ≡ false → settle room (atFoundRule t p (matchRule t (Ipv4.destination p))) ≡ translate4 p t room
-    unfolding translate4 decide4
-    matched4 h b = sym (pass-settles room (frontRows4 t (header4 p)) _ (unfold frontRows4 verdict in rw (s, h, b)))
+    matched4 h b = sym (settled4 p t room ∙ pass-settles room (frontRows4 t (header4 p)) _ (unfold frontRows4 verdict in rw (s, h, b)))
 
 -- a packet that passed row 2, over IPv4 row 3 too
 pub sight-of : (p : List ℕ) (h : Header) → h ≡ header p → any (malformed h) ≡ false → h .payloadLength < 65536 → Sight p h

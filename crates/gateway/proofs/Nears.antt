@@ -23,7 +23,7 @@ use Rattle.rules.specs.Datagram.{datagram, messageRows, gPduRows, innerRows, ex
 use Rattle.rules.specs.Session.{innerProtocol}
 use Rattle.rules.specs.Srv6.{srv6, srv6Payload}
 use Rattle.rules.specs.Carried.{carriedBy, carried6, datagramIn6}
-use Rattle.rules.specs.Gtp6D.{gtp6DPacket, gtp6Rows, gtp6DRows, atGtp6D}
+use Rattle.rules.specs.Gtp6D.{gtp6DPacket, gtp6Rows, gtp6DRows, rowsGtp6D, atGtp6D}
 use Rattle.rules.specs.D.{lastWithArgs, dPath, dPacket}
 use Rattle.rules.specs.Di.{diPath, diPacket}
 use Rattle.rules.specs.declared.Header.{Header}
@@ -42,7 +42,7 @@ use Rattle.octets.proofs.Laws.{next, run-as}
 use Rattle.gateway.specs.Heads.{pathHead}
 use Rattle.gateway.specs.Sight.{Sight}
 use Rattle.gateway.specs.Parts.{Parts}
-use Rattle.gateway.proofs.Settling.{four-refuse, four-pass}
+use Rattle.gateway.proofs.Settling.{refuse-settles, pass-settles}
 use Rattle.gateway.proofs.Paths.{path-whole}
 
 -- the next header depends on the first octet alone
@@ -88,14 +88,14 @@ module _ (e p : List ℕ) (path : List (List ℕ)) (made : List ℕ) (h : Header
       ∙ (λ i. verdict (gtp6Rows (s .view i) (message-here i) ++ (messageRows (message-here i) ++ (gPduRows (Entry.direction e) (message-here i) ++ innerRows (Entry.session e) (size-here i) (first-here i) (f i)))))
 
   pub gtp6-refuses : (ρ : Refusal) → v ≡ Refuse ρ → settle room (atGtp6D e path made p) ≡ Refused ρ
-  unfolding atGtp6D
+  unfolding atGtp6D rowsGtp6D
   gtp6-refuses ρ q =
-      four-refuse room (gtp6Rows (header p) (datagram (datagramIn6 p))) (messageRows (datagram (datagramIn6 p))) (gPduRows (Entry.direction e) (datagram (datagramIn6 p))) (gtp6DRows e path (carried6 p .inner)) (Sent made) ρ (sym whole-verdict ∙ q)
+      refuse-settles room (rowsGtp6D e path p) (Sent made) ρ (sym whole-verdict ∙ q)
 
   pub gtp6-passes : v ≡ Pass → settle room (atGtp6D e path made p) ≡ settle room (Sent made)
-  unfolding atGtp6D
+  unfolding atGtp6D rowsGtp6D
   gtp6-passes q =
-      four-pass room (gtp6Rows (header p) (datagram (datagramIn6 p))) (messageRows (datagram (datagramIn6 p))) (gPduRows (Entry.direction e) (datagram (datagramIn6 p))) (gtp6DRows e path (carried6 p .inner)) (Sent made) (sym whole-verdict ∙ q)
+      pass-settles room (rowsGtp6D e path p) (Sent made) (sym whole-verdict ∙ q)
 
   -- the inner packet lies within, and the length fits
   pub gtp6-bounds : v ≡ Pass → (place ≤ length p) × (field ≤ 65535)

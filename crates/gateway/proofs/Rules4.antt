@@ -23,7 +23,7 @@ use Rattle.rules.specs.Session.{innerProtocol}
 use Rattle.rules.specs.Srv6.{srv6, pastWaypoints, pastWaypointsPayload}
 use Rattle.rules.specs.Carried.{carriedBy, carried4, datagramIn4}
 use Rattle.rules.specs.E4.{startBehind}
-use Rattle.rules.specs.D4.{header4, addressBehind, d4Sid, d4Source, d4Packet, gtp4Rows, d4Rows, atD4}
+use Rattle.rules.specs.D4.{header4, addressBehind, d4Sid, d4Source, d4Packet, gtp4Rows, d4Rows, rowsD4, atD4}
 use Rattle.rules.specs.declared.Header4.{Header4}
 use Rattle.rules.specs.declared.Datagram.{Datagram}
 use Rattle.rules.specs.declared.Refusal.{Refusal}
@@ -38,7 +38,7 @@ use Rattle.octets.proofs.Windows.{window-part}
 use Rattle.gateway.specs.Heads.{pathFront, pathHead}
 use Rattle.gateway.specs.Sight.{Sight4}
 use Rattle.gateway.specs.Parts.{Parts}
-use Rattle.gateway.proofs.Settling.{four-refuse, four-pass}
+use Rattle.gateway.proofs.Settling.{refuse-settles, pass-settles}
 use Rattle.gateway.proofs.Tunnels.{ipv6-before}
 use Rattle.gateway.proofs.Paths.{path-one}
 use Rattle.gateway.proofs.Nears.{inner-octet, path-done, srv6-size}
@@ -150,14 +150,14 @@ module _ (r p : List ℕ) (h : Header4) (s : Sight4 p h) (room : ℕ) (g : Datag
       ∙ (λ i. verdict (gtp4Rows (s .view i) (hg i) ++ (messageRows (hg i) ++ (gPduRows (Rule.direction r) (hg i) ++ innerRows (Rule.session r) (size-here i) (first-here i) (f i)))))
 
   pub d4-refuses : (ρ : Refusal) → v ≡ Refuse ρ → settle room (atD4 r p) ≡ Refused ρ
-  unfolding atD4
+  unfolding atD4 rowsD4
   d4-refuses ρ q =
-      four-refuse room (gtp4Rows (header4 p) (datagram (datagramIn4 p))) (messageRows (datagram (datagramIn4 p))) (gPduRows (Rule.direction r) (datagram (datagramIn4 p))) (d4Rows r (carried4 p .inner)) (Sent (d4Packet r (carried4 p))) ρ (sym whole-verdict ∙ q)
+      refuse-settles room (rowsD4 r p) (Sent (d4Packet r (carried4 p))) ρ (sym whole-verdict ∙ q)
 
   pub d4-passes : v ≡ Pass → settle room (atD4 r p) ≡ settle room (Sent (d4Packet r (carried4 p)))
-  unfolding atD4
+  unfolding atD4 rowsD4
   d4-passes q =
-      four-pass room (gtp4Rows (header4 p) (datagram (datagramIn4 p))) (messageRows (datagram (datagramIn4 p))) (gPduRows (Rule.direction r) (datagram (datagramIn4 p))) (d4Rows r (carried4 p .inner)) (Sent (d4Packet r (carried4 p))) (sym whole-verdict ∙ q)
+      pass-settles room (rowsD4 r p) (Sent (d4Packet r (carried4 p))) (sym whole-verdict ∙ q)
 
   -- the inner packet lies within, and the length fits
   pub d4-bounds : v ≡ Pass → (place ≤ length p) × (field ≤ 65535)

@@ -18,9 +18,9 @@ use Rattle.rules.specs.Gtpu.{datagramBefore, datagramOctets}
 use Rattle.rules.specs.Checksum.{checksum}
 use Rattle.rules.specs.Answer.{given, verdict, lengthRow, Sent, Refused, settle, overlay}
 use Rattle.rules.specs.Header.{header, hasSrh, badChain, badSrh}
-use Rattle.rules.specs.E6.{e6Carried, e6Payload, e6Packet, e6Rows, atE6}
+use Rattle.rules.specs.E6.{e6Carried, e6Payload, e6Packet, e6Rows, rowsE6, atE6}
 use Rattle.rules.specs.Ipv4.{ipv4, ipv4Front}
-use Rattle.rules.specs.E4.{startBehind, e4Carried, e4TotalLength, e4Packet, e4Rows, atE4}
+use Rattle.rules.specs.E4.{startBehind, e4Carried, e4TotalLength, e4Packet, e4Rows, rowsE4, atE4}
 use Rattle.rules.specs.declared.Header.{Header}
 use Rattle.rules.specs.declared.Refusal.{Refusal}
 use Rattle.rules.specs.declared.Verdict.{Verdict}
@@ -32,7 +32,7 @@ use Rattle.octets.proofs.Laws.{next, run-as}
 use Rattle.gtpu.proofs.Laws.{datagram-whole}
 use Rattle.gateway.specs.Heads.{e6Head, e4Head}
 use Rattle.gateway.specs.Sight.{Sight}
-use Rattle.gateway.proofs.Settling.{joined-refuses, joined-passes}
+use Rattle.gateway.proofs.Settling.{refuse-settles, pass-settles}
 
 regroup : (s d r : List ℕ) → s ++ (d ++ []) ++ r ≡ s ++ (d ++ r)
 regroup s d r = simp (append-nil, append-assoc)
@@ -105,12 +105,12 @@ module _ (e p : List ℕ) (h : Header) (s : Sight p h) (room : ℕ) (n : ℕ) (v
       judged ∙ (λ i. verdict (e6Rows e (s .view i) ++ lengthRow (24 + q i) ∷ []))
 
   pub e6-refuses : (ρ : Refusal) → v ≡ Refuse ρ → settle room (atE6 e p) ≡ Refused ρ
-  unfolding atE6
-  e6-refuses ρ q = joined-refuses room (e6Rows e (header p)) (lengthRow (e6Payload (e6Carried e p .inner)) ∷ []) (Sent (e6Packet e (e6Carried e p))) ρ (sym e6-verdict ∙ q)
+  unfolding atE6 rowsE6
+  e6-refuses ρ q = refuse-settles room (rowsE6 e p) (Sent (e6Packet e (e6Carried e p))) ρ (sym e6-verdict ∙ q)
 
   pub e6-passes : v ≡ Pass → settle room (atE6 e p) ≡ settle room (Sent (e6Packet e (e6Carried e p)))
-  unfolding atE6
-  e6-passes q = joined-passes room (e6Rows e (header p)) (lengthRow (e6Payload (e6Carried e p .inner)) ∷ []) (Sent (e6Packet e (e6Carried e p))) (sym e6-verdict ∙ q)
+  unfolding atE6 rowsE6
+  e6-passes q = pass-settles room (rowsE6 e p) (Sent (e6Packet e (e6Carried e p))) (sym e6-verdict ∙ q)
 
   -- the upper layer is there, and the length fits
   pub e6-bounds : v ≡ Pass → (h .upperAt ≤ length p) × (24 + n ≤ 65535)
@@ -169,12 +169,12 @@ module _ (e p : List ℕ) (h : Header) (s : Sight p h) (room : ℕ) (n : ℕ) (v
       judged ∙ (λ i. verdict (e4Rows e (s .view i) ++ lengthRow (44 + q i) ∷ []))
 
   pub e4-refuses : (ρ : Refusal) → v ≡ Refuse ρ → settle room (atE4 e p) ≡ Refused ρ
-  unfolding atE4
-  e4-refuses ρ q = joined-refuses room (e4Rows e (header p)) (lengthRow (e4TotalLength (e4Carried e p .inner)) ∷ []) (Sent (e4Packet e (e4Carried e p))) ρ (sym e4-verdict ∙ q)
+  unfolding atE4 rowsE4
+  e4-refuses ρ q = refuse-settles room (rowsE4 e p) (Sent (e4Packet e (e4Carried e p))) ρ (sym e4-verdict ∙ q)
 
   pub e4-passes : v ≡ Pass → settle room (atE4 e p) ≡ settle room (Sent (e4Packet e (e4Carried e p)))
-  unfolding atE4
-  e4-passes q = joined-passes room (e4Rows e (header p)) (lengthRow (e4TotalLength (e4Carried e p .inner)) ∷ []) (Sent (e4Packet e (e4Carried e p))) (sym e4-verdict ∙ q)
+  unfolding atE4 rowsE4
+  e4-passes q = pass-settles room (rowsE4 e p) (Sent (e4Packet e (e4Carried e p))) (sym e4-verdict ∙ q)
 
   -- the upper layer is there, and the length fits
   pub e4-bounds : v ≡ Pass → (h .upperAt ≤ length p) × (44 + n ≤ 65535)

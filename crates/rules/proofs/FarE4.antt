@@ -19,16 +19,16 @@ use Rattle.rules.specs.Ipv6.{ipv6}
 use Rattle.rules.specs.Srh.{srh}
 use Rattle.rules.specs.Srv6.{srv6Payload}
 use Rattle.rules.specs.Args.{argsAt}
-use Rattle.rules.specs.Answer.{Sent, unless, lengthRow}
+use Rattle.rules.specs.Answer.{Sent, lengthRow}
 use Rattle.rules.specs.Header.{header, malformed, badChain, segmentsRemain}
 use Rattle.rules.specs.Session.{accepts}
 use Rattle.rules.specs.Carried.{Carried}
-use Rattle.rules.specs.E4.{startBehind, e4Carried, e4TotalLength, e4Packet, e4Rows, atE4}
+use Rattle.rules.specs.E4.{startBehind, e4Carried, e4TotalLength, e4Packet, e4Rows, rowsE4, atE4}
 use Rattle.rules.specs.D4.{addressBehind, d4Sid, d4Source}
 use Rattle.rules.specs.Trip.{Stop, call}
 use Rattle.rules.specs.Demand3.{AtEntry, HasRoom}
 use Rattle.rules.proofs.Windows.{window-length, window-past, window-front}
-use Rattle.rules.proofs.Rows.{Clear, None, clear, unless-none}
+use Rattle.rules.proofs.Rows.{Clear, None, clear, none-append, unless-none}
 use Rattle.rules.proofs.Reading.{ipv6-drop, ipv6-header, ipv6-source, ipv6-destination, ipv6-trafficClass}
 use Rattle.rules.proofs.Waypoints.{onTheWay, Way, way-header, way-destination, way-wellformed, way-inner}
 use Rattle.rules.proofs.Entries.{at-e4, entry-sends}
@@ -143,14 +143,14 @@ module _ (e r : List ℕ) (upper : ℕ) (c : Carried) (v : Valid 4 c) (hs : leng
 
   pub e4-sends : (s : Stop) (j : ℕ) → entryAt (s .table) j ≡ e → AtEntry s (d4Sid r c) endMGtp4E j → HasRoom s (length (e4Packet e c))
       → accepts (Entry.session e) upper ≡ true → e4TotalLength (c .inner) ≤ 65535 → call s p ≡ Sent (e4Packet e c)
-  unfolding atE4 e4Rows
+  unfolding atE4 rowsE4 e4Rows
   e4-sends s j hj at room ha hf =
       let n : None (e4Rows e (header p)) = (a .chain, (a .left, ((rw (a .protocol, ha), tt), tt))) in
-      let m : None (lengthRow (e4TotalLength (e4Carried e p .inner)) ∷ []) = rw e4-reads (omega clear) in
+      let last = lengthRow (e4TotalLength (e4Carried e p .inner)) ∷ [] in
+      let m : None last = rw e4-reads (omega clear) in
       entry-sends s p (d4Sid r c) (e4Packet e c) endMGtp4E j at (a .to) (a .front)
       (at-e4 (s .table) (entryAt (s .table) j) p (at .kind)
       ∙ ap (λ (e : List ℕ). atE4 e p) hj
-      ∙ unless-none (e4Rows e (header p)) (unless (lengthRow (e4TotalLength (e4Carried e p .inner)) ∷ []) (Sent (e4Packet e (e4Carried e p)))) n
-      ∙ unless-none (lengthRow (e4TotalLength (e4Carried e p .inner)) ∷ []) (Sent (e4Packet e (e4Carried e p))) m
+      ∙ unless-none (rowsE4 e p) (Sent (e4Packet e (e4Carried e p))) (none-append (e4Rows e (header p)) last n m)
       ∙ ap (λ (c : Carried). Sent (e4Packet e c)) e4-reads)
       room

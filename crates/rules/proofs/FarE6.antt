@@ -14,15 +14,15 @@ use Rattle.rules.specs.Srh.{segment, srh}
 use Rattle.rules.specs.Srv6.{srv6Payload}
 use Rattle.rules.specs.Args.{Args, argsAt, withArgs}
 use Rattle.rules.specs.Gtpu.{datagramOctets}
-use Rattle.rules.specs.Answer.{Sent, unless, lengthRow}
+use Rattle.rules.specs.Answer.{Sent, lengthRow}
 use Rattle.rules.specs.Header.{header}
 use Rattle.rules.specs.Session.{accepts}
 use Rattle.rules.specs.Carried.{Carried}
-use Rattle.rules.specs.E6.{e6Carried, e6Payload, e6Packet, e6Rows, atE6}
+use Rattle.rules.specs.E6.{e6Carried, e6Payload, e6Packet, e6Rows, rowsE6, atE6}
 use Rattle.rules.specs.Trip.{Stop, call}
 use Rattle.rules.specs.Demand3.{AtEntry, HasRoom}
 use Rattle.rules.proofs.Windows.{window-length, window-drop}
-use Rattle.rules.proofs.Rows.{None, clear, unless-none}
+use Rattle.rules.proofs.Rows.{None, clear, none-append, unless-none}
 use Rattle.rules.proofs.Reading.{ipv6-length, ipv6-segment, ipv6-trafficClass}
 use Rattle.rules.proofs.Waypoints.{onTheWay, Way, way-header, way-destination, way-wellformed, way-inner, segment-behind}
 use Rattle.rules.proofs.Entries.{at-e6, entry-sends}
@@ -71,7 +71,7 @@ module _ (e : List ℕ) (upper hop : ℕ) (source : List ℕ) (pre : List (List 
   pub e6-sends : (s : Stop) (j : ℕ) → entryAt (s .table) j ≡ e → AtEntry s (withArgs sid start (c .args)) endMGtp6E j
       → HasRoom s (length (e6Packet e c)) → accepts (Entry.session e) upper ≡ true
       → call s (onTheWay (c .trafficClass) upper hop source (pre ++ c .destination ∷ []) (withArgs sid start (c .args) ∷ c .destination ∷ []) (c .inner)) ≡ Sent (e6Packet e c)
-  unfolding atE6 e6Rows
+  unfolding atE6 rowsE6 e6Rows
   e6-sends s j hj a room ha =
       let held = pre ++ c .destination ∷ [] in
       let x = withArgs sid start (c .args) in
@@ -79,12 +79,12 @@ module _ (e : List ℕ) (upper hop : ℕ) (source : List ℕ) (pre : List (List 
       let p = onTheWay (c .trafficClass) upper hop source held path (c .inner) in
       let h : 1 ≤ length held = rw (length-append pre (c .destination ∷ [])) (omega arith) in
       let n : None (e6Rows e (header p)) = rw (way-header (c .trafficClass) upper hop source held path (c .inner) w, ha) (omega (clear, w .not0, w .not43)) in
-      let m : None (lengthRow (e6Payload (e6Carried e p .inner)) ∷ []) = rw e6-reads (omega (clear, w .fits)) in
+      let last = lengthRow (e6Payload (e6Carried e p .inner)) ∷ [] in
+      let m : None last = rw e6-reads (omega (clear, w .fits)) in
       entry-sends s p x (e6Packet e c) endMGtp6E j a (way-destination (c .trafficClass) upper hop source held path (c .inner) w)
       (way-wellformed (c .trafficClass) upper hop source held path (c .inner) w)
       (at-e6 (s .table) (entryAt (s .table) j) p (a .kind)
       ∙ ap (λ (e : List ℕ). atE6 e p) hj
-      ∙ unless-none (e6Rows e (header p)) (unless (lengthRow (e6Payload (e6Carried e p .inner)) ∷ []) (Sent (e6Packet e (e6Carried e p)))) n
-      ∙ unless-none (lengthRow (e6Payload (e6Carried e p .inner)) ∷ []) (Sent (e6Packet e (e6Carried e p))) m
+      ∙ unless-none (rowsE6 e p) (Sent (e6Packet e (e6Carried e p))) (none-append (e6Rows e (header p)) last n m)
       ∙ ap (λ (c : Carried). Sent (e6Packet e c)) e6-reads)
       room

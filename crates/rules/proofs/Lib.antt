@@ -5,9 +5,12 @@ pub mod Longest
 pub mod Tables
 pub mod Faults
 pub mod Rows
+pub mod Exact
 pub mod Reading
 pub mod Waypoints
 pub mod Trips
+pub mod Judging
+pub mod Deciding
 pub mod Entries
 pub mod Passing
 pub mod Sids
@@ -29,9 +32,11 @@ pub mod FaultSamples
 pub mod Worked
 pub mod Premises
 pub mod AnswerTable
+pub mod Refusals
+pub mod Smallest
 pub mod Splices
 pub mod Fields
 pub mod PathFields
 pub mod D4Fields
 pub mod SentFields
-pub mod Judging
+pub mod Given

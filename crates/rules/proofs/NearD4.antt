@@ -18,22 +18,23 @@ use Rattle.rules.specs.Gtpu as Gtpu
 use Rattle.rules.specs.Gtpu.{datagramOctets}
 use Rattle.rules.specs.Sound.{sound}
 use Rattle.rules.specs.Match.{matchRule}
-use Rattle.rules.specs.Answer.{Outcome, Sent, unless}
+use Rattle.rules.specs.Answer.{Sent, unless}
 use Rattle.rules.specs.Datagram.{datagram, messageRows, gPduRows, extended, badExtensions}
 use Rattle.rules.specs.Carried.{Carried, carriedBy, carried4, datagramIn4}
-use Rattle.rules.specs.D4.{header4, malformed4, badHeader4, d4Packet, gtp4Rows, d4Rows, atD4}
+use Rattle.rules.specs.D4.{header4, malformed4, badHeader4, d4Packet, gtp4Rows, d4Rows, rowsD4, atD4}
 use Rattle.rules.specs.E4.{e4Packet, e4TotalLength}
-use Rattle.rules.specs.Calls.{frontRows4, atFoundRule, decide4, translate4}
+use Rattle.rules.specs.Calls.{frontRows4, atFoundRule}
 use Rattle.rules.specs.Trip.{Stop, call}
 use Rattle.rules.specs.Demand3.{AtRule}
 use Rattle.rules.specs.declared.Found.{Found}
 use Rattle.rules.specs.declared.Found.the-variants.{At}
 use Rattle.rules.proofs.Windows.{drop-past, window-length, window-past, window-front}
-use Rattle.rules.proofs.Rows.{Clear, None, clear, read, unless-none, unless-sent, settle-sent, sent-settle}
+use Rattle.rules.proofs.Rows.{Clear, None, clear, read, none-parts, parts-none, unless-none, unless-sent, settle-sent, sent-settle}
 use Rattle.rules.proofs.FarE6.{Valid}
 use Rattle.rules.proofs.FarE4.{e4-length}
 use Rattle.rules.proofs.Messages.{datagram-back, carriedBy-back, carriedBy-fits, carriedBy-quiet}
 use Rattle.rules.proofs.Checksums.{ipv4-sum}
+use Rattle.rules.proofs.Deciding.{settled4, at-found-rule}
 use Rattle.rules.proofs.Trips.{call-v4}
 
 -- No row applied: to the IPv4 header, to the datagram, to what is to be sent.
@@ -46,31 +47,20 @@ pub record Passed (r p : List ℕ) : Type 0 where
   pub last : None (d4Rows r (carried4 p .inner))
 
 module _ (r p : List ℕ) where
-  last-step : Outcome
-  last-step = unless (d4Rows r (carried4 p .inner)) (Sent (d4Packet r (carried4 p)))
-
-  gPdu-step : Outcome
-  gPdu-step = unless (gPduRows (Rule.direction r) (datagram (datagramIn4 p))) last-step
-
-  message-step : Outcome
-  message-step = unless (messageRows (datagram (datagramIn4 p))) gPdu-step
-
   sent-passed : (x : List ℕ) → Clear (malformed4 (header4 p)) → Clear (badHeader4 (header4 p)) → atD4 r p ≡ Sent x → Passed r p
-  unfolding atD4 last-step gPdu-step message-step
+  unfolding atD4 rowsD4
   sent-passed x front ipv4 h =
-      let (n₁, k₁) = unless-sent (gtp4Rows (header4 p) (datagram (datagramIn4 p))) message-step x h in
-      let (n₂, k₂) = unless-sent (messageRows (datagram (datagramIn4 p))) gPdu-step x k₁ in
-      let (n₃, k₃) = unless-sent (gPduRows (Rule.direction r) (datagram (datagramIn4 p))) last-step x k₂ in
-      let (n₄, k₄) = unless-sent (d4Rows r (carried4 p .inner)) (Sent (d4Packet r (carried4 p))) x k₃ in
-      record { front = front; ipv4 = ipv4; tunnel = n₁; message = n₂; gPdu = n₃; last = n₄ }
+      let g = datagram (datagramIn4 p) in
+      let (n, k) = unless-sent (rowsD4 r p) (Sent (d4Packet r (carried4 p))) x h in
+      let (a, (b, (c, d))) = none-parts (gtp4Rows (header4 p) g) (messageRows g) (gPduRows (Rule.direction r) g) (d4Rows r (carried4 p .inner)) n in
+      record { front = front; ipv4 = ipv4; tunnel = a; message = b; gPdu = c; last = d }
 
   passed-sent : Passed r p → atD4 r p ≡ Sent (d4Packet r (carried4 p))
-  unfolding atD4 last-step gPdu-step message-step
+  unfolding atD4 rowsD4
   passed-sent n =
-      unless-none (gtp4Rows (header4 p) (datagram (datagramIn4 p))) message-step (n .tunnel)
-      ∙ unless-none (messageRows (datagram (datagramIn4 p))) gPdu-step (n .message)
-      ∙ unless-none (gPduRows (Rule.direction r) (datagram (datagramIn4 p))) last-step (n .gPdu)
-      ∙ unless-none (d4Rows r (carried4 p .inner)) (Sent (d4Packet r (carried4 p))) (n .last)
+      let g = datagram (datagramIn4 p) in
+      unless-none (rowsD4 r p) (Sent (d4Packet r (carried4 p)))
+      (parts-none (gtp4Rows (header4 p) g) (messageRows g) (gPduRows (Rule.direction r) g) (d4Rows r (carried4 p .inner)) (n .tunnel) (n .message) (n .gPdu) (n .last))
 
   -- in uplink R is 0
   pub passed-quiet : Passed r p → cond (eqb (Rule.direction r) downlink) 0 (carried4 p .args .reflective) ≡ 0
@@ -112,21 +102,26 @@ module _ (s : Stop) (p d : List ℕ) (k : ℕ) (a : AtRule s d k) (hd : Ipv4.des
   found-at = rw hd (a .matches)
 
   pub call-passed : (x : List ℕ) → call s p ≡ Sent x → Passed (ruleAt (s .table) k) p
-  unfolding translate4 decide4 frontRows4 atFoundRule
+  unfolding frontRows4
   call-passed x hc =
       let t = s .table in
-      let k₁ = sent-settle (length (s .buffer)) (decide4 p t) x (sym (call-v4 s p (a .call)) ∙ hc) in
-      let (n, k₂) = unless-sent (frontRows4 t (header4 p)) (atFoundRule t p (matchRule t (Ipv4.destination p))) x k₁ in
-      sent-passed (ruleAt t k) p x (n .1 .0) (n .1 .1 .0) (sym (ap (λ (f : Found). atFoundRule t p f) found-at) ∙ k₂)
+      let room = length (s .buffer) in
+      let found = atFoundRule t p (matchRule t (Ipv4.destination p)) in
+      let k₁ = sent-settle room (unless (frontRows4 t (header4 p)) found) x (sym (settled4 p t room) ∙ sym (call-v4 s p (a .call)) ∙ hc) in
+      let (n, k₂) = unless-sent (frontRows4 t (header4 p)) found x k₁ in
+      sent-passed (ruleAt t k) p x (n .1 .0) (n .1 .1 .0) (sym (ap (λ (f : Found). atFoundRule t p f) found-at ∙ at-found-rule t p k) ∙ k₂)
 
   pub passed-call : (r : List ℕ) → ruleAt (s .table) k ≡ r → Passed r p → length (d4Packet r (carried4 p)) ≤ length (s .buffer) → call s p ≡ Sent (d4Packet r (carried4 p))
-  unfolding translate4 decide4 frontRows4 atFoundRule
+  unfolding frontRows4
   passed-call r hr n room =
       let t = s .table in
+      let found = atFoundRule t p (matchRule t (Ipv4.destination p)) in
       call-v4 s p (a .call)
-      ∙ settle-sent (length (s .buffer)) (decide4 p t) (d4Packet r (carried4 p))
-      (unless-none (frontRows4 t (header4 p)) (atFoundRule t p (matchRule t (Ipv4.destination p))) ((rw (a .sound), tt), (n .front, (n .ipv4, tt)))
+      ∙ settled4 p t (length (s .buffer))
+      ∙ settle-sent (length (s .buffer)) (unless (frontRows4 t (header4 p)) found) (d4Packet r (carried4 p))
+      (unless-none (frontRows4 t (header4 p)) found ((rw (a .sound), tt), (n .front, (n .ipv4, tt)))
       ∙ ap (λ (f : Found). atFoundRule t p f) found-at
+      ∙ at-found-rule t p k
       ∙ ap (λ (r : List ℕ). atD4 r p) hr
       ∙ passed-sent r p n)
       room

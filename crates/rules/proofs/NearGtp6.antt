@@ -13,14 +13,14 @@ use Rattle.rules.specs.Entry as Entry
 use Rattle.rules.specs.Ipv6 as Ipv6
 use Rattle.rules.specs.Gtpu as Gtpu
 use Rattle.rules.specs.Gtpu.{datagramOctets}
-use Rattle.rules.specs.Answer.{Outcome, Sent, unless}
+use Rattle.rules.specs.Answer.{Sent}
 use Rattle.rules.specs.Header.{header, malformed}
 use Rattle.rules.specs.Datagram.{datagram, messageRows, gPduRows}
 use Rattle.rules.specs.Carried.{Carried, carriedBy, carried6, datagramIn6}
-use Rattle.rules.specs.Gtp6D.{gtp6Rows, gtp6DRows, atGtp6D}
+use Rattle.rules.specs.Gtp6D.{gtp6Rows, gtp6DRows, rowsGtp6D, atGtp6D}
 use Rattle.rules.specs.E6.{e6Packet, e6Payload}
 use Rattle.rules.proofs.Windows.{window-length}
-use Rattle.rules.proofs.Rows.{Clear, None, clear, read, unless-none, unless-sent}
+use Rattle.rules.proofs.Rows.{Clear, None, clear, read, none-parts, parts-none, unless-none, unless-sent}
 use Rattle.rules.proofs.Reading.{ipv6-drop, ipv6-header, ipv6-destination, ipv6-trafficClass}
 use Rattle.rules.proofs.FarE6.{Valid, datagram-length}
 use Rattle.rules.proofs.Messages.{datagram-back, carriedBy-back, carriedBy-fits, carriedBy-quiet}
@@ -34,31 +34,20 @@ pub record Passed (e : List ℕ) (path : List (List ℕ)) (p : List ℕ) : Type 
   pub last : None (gtp6DRows e path (carried6 p .inner))
 
 module _ (e : List ℕ) (path : List (List ℕ)) (made p : List ℕ) where
-  last-step : Outcome
-  last-step = unless (gtp6DRows e path (carried6 p .inner)) (Sent made)
-
-  gPdu-step : Outcome
-  gPdu-step = unless (gPduRows (Entry.direction e) (datagram (datagramIn6 p))) last-step
-
-  message-step : Outcome
-  message-step = unless (messageRows (datagram (datagramIn6 p))) gPdu-step
-
   pub sent-passed : (x : List ℕ) → Clear (malformed (header p)) → atGtp6D e path made p ≡ Sent x → Passed e path p × (made ≡ x)
-  unfolding atGtp6D last-step gPdu-step message-step
+  unfolding atGtp6D rowsGtp6D
   sent-passed x front h =
-      let (n₁, k₁) = unless-sent (gtp6Rows (header p) (datagram (datagramIn6 p))) message-step x h in
-      let (n₂, k₂) = unless-sent (messageRows (datagram (datagramIn6 p))) gPdu-step x k₁ in
-      let (n₃, k₃) = unless-sent (gPduRows (Entry.direction e) (datagram (datagramIn6 p))) last-step x k₂ in
-      let (n₄, k₄) = unless-sent (gtp6DRows e path (carried6 p .inner)) (Sent made) x k₃ in
-      (record { front = front; tunnel = n₁; message = n₂; gPdu = n₃; last = n₄ }, cc)
+      let g = datagram (datagramIn6 p) in
+      let (n, k) = unless-sent (rowsGtp6D e path p) (Sent made) x h in
+      let (a, (b, (c, d))) = none-parts (gtp6Rows (header p) g) (messageRows g) (gPduRows (Entry.direction e) g) (gtp6DRows e path (carried6 p .inner)) n in
+      (record { front = front; tunnel = a; message = b; gPdu = c; last = d }, cc)
 
   pub passed-sent : Passed e path p → atGtp6D e path made p ≡ Sent made
-  unfolding atGtp6D last-step gPdu-step message-step
+  unfolding atGtp6D rowsGtp6D
   passed-sent n =
-      unless-none (gtp6Rows (header p) (datagram (datagramIn6 p))) message-step (n .tunnel)
-      ∙ unless-none (messageRows (datagram (datagramIn6 p))) gPdu-step (n .message)
-      ∙ unless-none (gPduRows (Entry.direction e) (datagram (datagramIn6 p))) last-step (n .gPdu)
-      ∙ unless-none (gtp6DRows e path (carried6 p .inner)) (Sent made) (n .last)
+      let g = datagram (datagramIn6 p) in
+      unless-none (rowsGtp6D e path p) (Sent made)
+      (parts-none (gtp6Rows (header p) g) (messageRows g) (gPduRows (Entry.direction e) g) (gtp6DRows e path (carried6 p .inner)) (n .tunnel) (n .message) (n .gPdu) (n .last))
 
   -- in uplink R is 0
   pub passed-quiet : Passed e path p → cond (eqb (Entry.direction e) downlink) 0 (carried6 p .args .reflective) ≡ 0

@@ -14,18 +14,18 @@ use Rattle.rules.specs.Match.{longest, matchEntry, matchRule}
 use Rattle.rules.specs.Sound.{all, headerSound, entrySound, ruleSound, policySound, sameEntryPrefix, sameRulePrefix, distinct, soundWithin}
 use Rattle.rules.specs.Checksum.{onesSum}
 use Rattle.rules.specs.Args.{argsAt, withArgs}
-use Rattle.rules.specs.Answer.{verdict, settle}
+use Rattle.rules.specs.Answer.{verdict}
 use Rattle.rules.specs.Header.{header}
 use Rattle.rules.specs.Datagram.{innerRows, datagram, messageRows, gPduRows}
 use Rattle.rules.specs.Session.{innerProtocol}
 use Rattle.rules.specs.Carried.{carriedBy, carried6, carried4}
-use Rattle.rules.specs.Gtp6D.{gtp6DPacket, gtp6Rows, atGtp6D}
-use Rattle.rules.specs.D.{dPath, dPacket, atD}
-use Rattle.rules.specs.Di.{diPath, diPacket, atDi}
+use Rattle.rules.specs.Gtp6D.{gtp6DPacket, gtp6Rows, rowsGtp6D}
+use Rattle.rules.specs.D.{dPath, dPacket}
+use Rattle.rules.specs.Di.{diPath, diPacket}
 use Rattle.rules.specs.E6.{e6Packet}
 use Rattle.rules.specs.E4.{e4Packet}
-use Rattle.rules.specs.D4.{header4, d4Sid, d4Source, d4Packet, gtp4Rows, atD4}
-use Rattle.rules.specs.Calls.{frontRows6, frontRows4, atEntry, atFoundEntry, atFoundRule, decide6, decide4, translate6, translate4}
+use Rattle.rules.specs.D4.{header4, d4Sid, d4Source, d4Packet, gtp4Rows, rowsD4}
+use Rattle.rules.specs.Calls.{decideEntry, decideFoundEntry, decideFoundRule, frontRows6, frontRows4, rows6, rows4, translate6, translate4}
 use Rattle.rules.specs.Trip.{Version, v4, v6, Stop, call}
 use Rattle.rules.specs.Demand3.{AtEntry, Matching, over6, over4, MatchingD}
 use Rattle.rules.proofs.Samples.{sidOf, table, packet6, packet4, bytes-octets}
@@ -48,7 +48,7 @@ unfolding window number firstBits under clear entryAt ruleAt policyAt longest ma
 at-waypoint = record { call = refl; octets = bytes-octets (table endMGtp6DDi 2) refl; sound = refl; matches = refl; kind = refl }
 
 pub di-none : Matching (near6 0) [] (near6 0) (packet6 inner)
-unfolding window number firstBits under clear entryAt ruleAt policyAt addressesAt longest matchEntry all headerSound entrySound ruleSound policySound sameEntryPrefix sameRulePrefix distinct soundWithin argsAt withArgs verdict settle header datagram messageRows gPduRows innerProtocol carriedBy carried6 gtp6DPacket gtp6Rows innerRows atGtp6D diPath diPacket atDi e6Packet frontRows6 atEntry atFoundEntry decide6 translate6
+unfolding window number firstBits under clear entryAt ruleAt policyAt addressesAt longest matchEntry all headerSound entrySound ruleSound policySound sameEntryPrefix sameRulePrefix distinct soundWithin argsAt withArgs verdict header datagram messageRows gPduRows innerProtocol carriedBy carried6 gtp6DPacket gtp6Rows innerRows rowsGtp6D diPath diPacket e6Packet frontRows6 decideEntry decideFoundEntry rows6 translate6
 di-none = over6 0 1 (record {
   octets = bytes-octets (packet6 inner) refl;
   gPdu = refl;
@@ -64,7 +64,7 @@ di-none = over6 0 1 (record {
 })
 
 pub di-two : Matching (near6 2) (near6 2 ∷ near6 2 ∷ []) (near6 2) (packet6 inner)
-unfolding window number firstBits under clear entryAt ruleAt policyAt addressesAt longest matchEntry all headerSound entrySound ruleSound policySound sameEntryPrefix sameRulePrefix distinct soundWithin argsAt withArgs verdict settle header datagram messageRows gPduRows innerProtocol carriedBy carried6 gtp6DPacket gtp6Rows innerRows atGtp6D diPath diPacket atDi e6Packet frontRows6 atEntry atFoundEntry decide6 translate6
+unfolding window number firstBits under clear entryAt ruleAt policyAt addressesAt longest matchEntry all headerSound entrySound ruleSound policySound sameEntryPrefix sameRulePrefix distinct soundWithin argsAt withArgs verdict header datagram messageRows gPduRows innerProtocol carriedBy carried6 gtp6DPacket gtp6Rows innerRows rowsGtp6D diPath diPacket e6Packet frontRows6 decideEntry decideFoundEntry rows6 translate6
 di-two = over6 0 1 (record {
   octets = bytes-octets (packet6 inner) refl;
   gPdu = refl;
@@ -80,7 +80,7 @@ di-two = over6 0 1 (record {
 })
 
 pub d4-none : Matching (near4 0) [] (near6 0) (packet4 inner)
-unfolding window number firstBits under clear entryAt ruleAt policyAt addressesAt longest matchEntry matchRule all headerSound entrySound ruleSound policySound sameEntryPrefix sameRulePrefix distinct soundWithin onesSum argsAt withArgs verdict settle header4 datagram messageRows gPduRows innerProtocol carriedBy carried4 d4Sid d4Source d4Packet gtp4Rows innerRows atD4 e4Packet frontRows4 atFoundRule decide4 translate4
+unfolding window number firstBits under clear entryAt ruleAt policyAt addressesAt longest matchEntry matchRule all headerSound entrySound ruleSound policySound sameEntryPrefix sameRulePrefix distinct soundWithin onesSum argsAt withArgs verdict header4 datagram messageRows gPduRows innerProtocol carriedBy carried4 d4Sid d4Source d4Packet gtp4Rows innerRows rowsD4 e4Packet frontRows4 decideFoundRule rows4 translate4
 d4-none = over4 0 3 (record {
   octets = bytes-octets (packet4 inner) refl;
   gPdu = refl;
@@ -97,7 +97,7 @@ d4-none = over4 0 3 (record {
 })
 
 pub d4-two : Matching (near4 2) (near6 2 ∷ near6 2 ∷ []) (near6 2) (packet4 inner)
-unfolding window number firstBits under clear entryAt ruleAt policyAt addressesAt longest matchEntry matchRule all headerSound entrySound ruleSound policySound sameEntryPrefix sameRulePrefix distinct soundWithin onesSum argsAt withArgs verdict settle header4 datagram messageRows gPduRows innerProtocol carriedBy carried4 d4Sid d4Source d4Packet gtp4Rows innerRows atD4 e4Packet frontRows4 atFoundRule decide4 translate4
+unfolding window number firstBits under clear entryAt ruleAt policyAt addressesAt longest matchEntry matchRule all headerSound entrySound ruleSound policySound sameEntryPrefix sameRulePrefix distinct soundWithin onesSum argsAt withArgs verdict header4 datagram messageRows gPduRows innerProtocol carriedBy carried4 d4Sid d4Source d4Packet gtp4Rows innerRows rowsD4 e4Packet frontRows4 decideFoundRule rows4 translate4
 d4-two = over4 0 3 (record {
   octets = bytes-octets (packet4 inner) refl;
   gPdu = refl;
@@ -117,7 +117,7 @@ abbrev pub nearD : Stop
 nearD = stopOf v6 endMGtp6D 2
 
 pub d-two : MatchingD nearD (near6 2 ∷ near6 2 ∷ []) (packet6 inner) 0
-unfolding window number firstBits under clear entryAt ruleAt policyAt addressesAt longest matchEntry all headerSound entrySound ruleSound policySound sameEntryPrefix sameRulePrefix distinct soundWithin argsAt withArgs verdict settle header datagram messageRows gPduRows innerProtocol carriedBy carried6 gtp6DPacket gtp6Rows innerRows atGtp6D dPath dPacket atD e6Packet frontRows6 atEntry atFoundEntry decide6 translate6
+unfolding window number firstBits under clear entryAt ruleAt policyAt addressesAt longest matchEntry all headerSound entrySound ruleSound policySound sameEntryPrefix sameRulePrefix distinct soundWithin argsAt withArgs verdict header datagram messageRows gPduRows innerProtocol carriedBy carried6 gtp6DPacket gtp6Rows innerRows rowsGtp6D dPath dPacket e6Packet frontRows6 decideEntry decideFoundEntry rows6 translate6
 d-two = record {
   octets = bytes-octets (packet6 inner) refl;
   sent = (_, refl);

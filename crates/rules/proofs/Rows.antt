@@ -1,6 +1,6 @@
 -- Rows of the answer table: a packet is sent exactly where none applies, and then what is known is that every test failed.
 use mathlib.Core.Path.{_≡_, refl, ap, _∙_}
-use mathlib.Core.List.{List, [], _∷_}
+use mathlib.Core.List.{List, [], _∷_, _++_}
 use mathlib.Core.Bool.{Bool, true, false, cond, true≢false}
 use Prim.Native.Nat.{ℕ, _≤_}
 use native.Mathlib.Omega.{arith}
@@ -42,6 +42,29 @@ pass-none (r ∷ rs) e = let (q, f) = first (any (r .tests)) e in (any-clear (r 
     first : (b : Bool) → cond b (Refuse (r .refusal)) (verdict rs) ≡ Pass → (b ≡ false) × (verdict rs ≡ Pass)
     first true f = let z : _≡_ {A = ℕ} 0 1 = cc in absurd (omega arith)
     first false f = (refl, f)
+
+-- rows one after the other
+pub none-append : (xs ys : List Row) → None xs → None ys → None (xs ++ ys)
+none-append [] ys n m = m
+none-append (x ∷ xs) ys n m = (n .0, none-append xs ys (n .1) m)
+
+pub none-front : (xs ys : List Row) → None (xs ++ ys) → None xs
+none-front [] ys n = tt
+none-front (x ∷ xs) ys n = (n .0, none-front xs ys (n .1))
+
+pub none-back : (xs ys : List Row) → None (xs ++ ys) → None ys
+none-back [] ys n = n
+none-back (x ∷ xs) ys n = none-back xs ys (n .1)
+
+-- four lists of rows, as at D, Di and D4
+pub none-parts : (a b c d : List Row) → None (a ++ (b ++ (c ++ d))) → None a × (None b × (None c × None d))
+none-parts a b c d n =
+    let m = none-back a (b ++ (c ++ d)) n in
+    let l = none-back b (c ++ d) m in
+    (none-front a (b ++ (c ++ d)) n, (none-front b (c ++ d) m, (none-front c d l, none-back c d l)))
+
+pub parts-none : (a b c d : List Row) → None a → None b → None c → None d → None (a ++ (b ++ (c ++ d)))
+parts-none a b c d na nb nc nd = none-append a (b ++ (c ++ d)) na (none-append b (c ++ d) nb (none-append c d nc nd))
 
 -- where no row applies, the outcome is what it would be
 pub unless-none : (rs : List Row) (o : Outcome) → None rs → unless rs o ≡ o

@@ -17,17 +17,16 @@ use Rattle.rules.specs.Srh as Srh
 use Rattle.rules.specs.Args.{argsAt}
 use Rattle.rules.specs.Sound.{sound, entryLimit, entrySound, behaviourKnown}
 use Rattle.rules.specs.Match.{matchEntry, matchRule}
-use Rattle.rules.specs.Answer.{Outcome, Sent, Refused, unless, settle, roomRow, lengthRow, packed}
+use Rattle.rules.specs.Answer.{Decision, Sent, unless, outcome, inRoom, roomRow, lengthRow}
 use Rattle.rules.specs.Header.{header, malformed, hasSrh, badChain}
-use Rattle.rules.specs.Datagram.{datagram, messageRows, gPduRows}
-use Rattle.rules.specs.Carried.{carried6, carried4, datagramIn4}
+use Rattle.rules.specs.Carried.{carried6, carried4}
 use Rattle.rules.specs.Waypoint.{forwarded, underway, waypointRows, stepRows, atWaypoint}
 use Rattle.rules.specs.D.{dPath, dPacket, atD}
 use Rattle.rules.specs.Di.{diPath, diPacket, atDi}
-use Rattle.rules.specs.E6.{e6Carried, e6Payload, e6Packet, e6Rows, atE6}
-use Rattle.rules.specs.E4.{startBehind, e4Carried, e4TotalLength, e4Packet, e4Rows, atE4}
-use Rattle.rules.specs.D4.{header4, d4Packet, gtp4Rows, d4Rows, atD4}
-use Rattle.rules.specs.Calls.{frontRows6, frontRows4, atFoundEntry, atFoundRule, decide6, decide4, translate6, translate4}
+use Rattle.rules.specs.E6.{e6Carried, e6Packet, rowsE6, atE6}
+use Rattle.rules.specs.E4.{startBehind, e4Carried, e4TotalLength, e4Packet, e4Rows, rowsE4, atE4}
+use Rattle.rules.specs.D4.{header4, d4Packet, rowsD4, atD4}
+use Rattle.rules.specs.Calls.{frontRows6, frontRows4, atFoundEntry, atFoundRule, decide6, decide4, rows6, rows4, translate6, translate4}
 use Rattle.rules.specs.Written.{WrittenWaypoint, WrittenD, WrittenDi, WrittenE6, WrittenE4, WrittenD4}
 use Rattle.rules.specs.Sent.{SentAtEntry}
 use Rattle.rules.specs.declared.Refusal.{Refusal}
@@ -35,8 +34,9 @@ use Rattle.rules.specs.declared.Found.{Found}
 use Rattle.rules.specs.declared.Found.the-variants.{At, Nothing}
 use Rattle.rules.proofs.Windows.{window-length, octets-window}
 use Rattle.rules.proofs.Conditions.{and-left, conjunct}
-use Rattle.rules.proofs.Rows.{Clear, read, unless-sent, sent-settle}
+use Rattle.rules.proofs.Rows.{Clear, read, none-back, unless-sent, sent-settle}
 use Rattle.rules.proofs.Tables.{SoundPolicy, found-entry, found-d, found-di, found-rule}
+use Rattle.rules.proofs.Deciding.{settled6, settled4, at-found-entry, at-found-rule, at-no-entry, at-no-rule}
 use Rattle.rules.proofs.Entries.{at-waypoint, at-d, at-di, at-e6, at-e4}
 use Rattle.rules.proofs.Sids.{Fits}
 use Rattle.rules.proofs.FarE6.{Valid}
@@ -93,20 +93,15 @@ module _ (e y p x : List ℕ) (o : Octets p) (s : SoundPolicy y) (front : Clear 
 e6-sent : (e p x : List ℕ) → Octets p → atE6 e p ≡ Sent x → WrittenE6 e (e6Carried e p) x
 unfolding atE6
 e6-sent e p x o h =
-    let made = Sent (e6Packet e (e6Carried e p)) in
-    let last = lengthRow (e6Payload (e6Carried e p .inner)) ∷ [] in
-    let (n, k) = unless-sent (e6Rows e (header p)) (unless last made) x h in
-    let (m, l) = unless-sent last made x k in
+    let (n, k) = unless-sent (rowsE6 e p) (Sent (e6Packet e (e6Carried e p))) x h in
     let q : e6Packet e (e6Carried e p) ≡ x = cc in
     rw q at (e6-written e (e6Carried e p) (e6Carried-valid e p o))
 
 e4-sent : (e p x : List ℕ) → Octets p → Entry.hopLimit e < 256 → atE4 e p ≡ Sent x → WrittenE4 e (e4Carried e p) x
-unfolding atE4 e4Carried
+unfolding atE4 rowsE4 e4Carried
 e4-sent e p x o ttl h =
-    let made = Sent (e4Packet e (e4Carried e p)) in
-    let last = lengthRow (e4TotalLength (e4Carried e p .inner)) ∷ [] in
-    let (n, k) = unless-sent (e4Rows e (header p)) (unless last made) x h in
-    let (m, l) = unless-sent last made x k in
+    let (n, k) = unless-sent (rowsE4 e p) (Sent (e4Packet e (e4Carried e p))) x h in
+    let m = none-back (e4Rows e (header p)) (lengthRow (e4TotalLength (e4Carried e p .inner)) ∷ []) n in
     let q : e4Packet e (e4Carried e p) ≡ x = cc in
     let from = Ipv6.source p in
     let to = Ipv6.destination p in
@@ -117,15 +112,7 @@ e4-sent e p x o ttl h =
 d4-sent : (r p x : List ℕ) → Octets p → Rule.p r ≤ 7 → Rule.q r ≤ 12 → atD4 r p ≡ Sent x → WrittenD4 r (carried4 p) x
 unfolding atD4
 d4-sent r p x o hp hq h =
-    let g = datagram (datagramIn4 p) in
-    let made = Sent (d4Packet r (carried4 p)) in
-    let third = unless (d4Rows r (carried4 p .inner)) made in
-    let second = unless (gPduRows (Rule.direction r) g) third in
-    let first = unless (messageRows g) second in
-    let (n₁, k₁) = unless-sent (gtp4Rows (header4 p) g) first x h in
-    let (n₂, k₂) = unless-sent (messageRows g) second x k₁ in
-    let (n₃, k₃) = unless-sent (gPduRows (Rule.direction r) g) third x k₂ in
-    let (n₄, k₄) = unless-sent (d4Rows r (carried4 p .inner)) made x k₃ in
+    let (n, k) = unless-sent (rowsD4 r p) (Sent (d4Packet r (carried4 p))) x h in
     let q : d4Packet r (carried4 p) ≡ x = cc in
     rw q at (d4-written r (carried4 p) (carried4-valid p o) (rw (carried4-source p) (window-length p 12 4)) hp hq)
 
@@ -141,16 +128,18 @@ entry-ttl t i o = octets-window t (16 + 64 * i) 64 o 2
 
 pub sent6-written : (p t : List ℕ) (room : ℕ) (x : List ℕ) → Octets p → Octets t → translate6 p t room ≡ Sent x
     → (i : ℕ) × ((matchEntry t (Ipv6.destination p) ≡ At i) × SentAtEntry t (entryAt t i) p x)
-unfolding translate6 decide6 frontRows6 atFoundEntry
+unfolding frontRows6
 sent6-written p t room x op ot h =
     let to = Ipv6.destination p in
-    let (n, k) = unless-sent (frontRows6 t (header p)) (atFoundEntry t p (matchEntry t to)) x (sent-settle room (decide6 p t) x h) in
+    let rest = atFoundEntry t p (matchEntry t to) in
+    let (n, k) = unless-sent (frontRows6 t (header p)) rest x (sent-settle room (unless (frontRows6 t (header p)) rest) x (sym (settled6 p t room) ∙ h)) in
     found (not-false (sound t) (n .0 .0)) (n .1 .0) (matchEntry t to) refl k
   where
     found : sound t ≡ true → Clear (malformed (header p)) → (f : Found) → matchEntry t (Ipv6.destination p) ≡ f → atFoundEntry t p f ≡ Sent x
         → (i : ℕ) × ((matchEntry t (Ipv6.destination p) ≡ At i) × SentAtEntry t (entryAt t i) p x)
-    found s front Nothing m k = let z : _≡_ {A = ℕ} 0 1 = cc in absurd (omega arith)
-    found s front (At i) m k =
+    found s front Nothing m h = let no = sym (at-no-entry t p) ∙ h in let z : _≡_ {A = ℕ} 0 1 = cc in absurd (omega arith)
+    found s front (At i) m h =
+        let k = sym (at-found-entry t p i) ∙ h in
         let to = Ipv6.destination p in
         let e = entryAt t i in
         let y = policyAt t (Entry.policy e) in (
@@ -170,48 +159,34 @@ sent6-written p t room x op ot h =
 
 pub sent4-written : (p t : List ℕ) (room : ℕ) (x : List ℕ) → Octets p → translate4 p t room ≡ Sent x
     → (k : ℕ) × ((matchRule t (Ipv4.destination p) ≡ At k) × WrittenD4 (ruleAt t k) (carried4 p) x)
-unfolding translate4 decide4 frontRows4 atFoundRule
+unfolding frontRows4
 sent4-written p t room x op h =
     let to = Ipv4.destination p in
-    let (n, k) = unless-sent (frontRows4 t (header4 p)) (atFoundRule t p (matchRule t to)) x (sent-settle room (decide4 p t) x h) in
+    let rest = atFoundRule t p (matchRule t to) in
+    let (n, k) = unless-sent (frontRows4 t (header4 p)) rest x (sent-settle room (unless (frontRows4 t (header4 p)) rest) x (sym (settled4 p t room) ∙ h)) in
     found (not-false (sound t) (n .0 .0)) (matchRule t to) refl k
   where
     found : sound t ≡ true → (f : Found) → matchRule t (Ipv4.destination p) ≡ f → atFoundRule t p f ≡ Sent x
         → (k : ℕ) × ((matchRule t (Ipv4.destination p) ≡ At k) × WrittenD4 (ruleAt t k) (carried4 p) x)
-    found s Nothing m k = let z : _≡_ {A = ℕ} 0 1 = cc in absurd (omega arith)
-    found s (At j) m k =
+    found s Nothing m h = let no = sym (at-no-rule t p) ∙ h in let z : _≡_ {A = ℕ} 0 1 = cc in absurd (omega arith)
+    found s (At j) m h =
         let good = found-rule entryLimit t (Ipv4.destination p) j s m in
-        (j, (m, d4-sent (ruleAt t j) p x op (good .p) (good .q) k))
+        (j, (m, d4-sent (ruleAt t j) p x op (good .p) (good .q) (sym (at-found-rule t p j) ∙ h)))
 
 -- THE ROOM
 
-settle-size : (room : ℕ) (o : Outcome) (x : List ℕ) → settle room o ≡ Sent x → length x ≤ room
-unfolding settle
-settle-size room (Sent y) x h =
-    let (n, k) = unless-sent (roomRow room y ∷ []) (Sent y) x h in
-    let q : y ≡ x = cc in
-    let l : length y ≤ room = omega (read, n) in
+room-size : (room : ℕ) (d : Decision) (x : List ℕ) → outcome (inRoom room d) ≡ Sent x → length x ≤ room
+room-size room d x h =
+    let (n, k) = unless-sent (inRoom room d .rows) (Sent (d .packet)) x h in
+    let m = none-back (d .rows) (roomRow room (d .packet) ∷ []) n in
+    let q : d .packet ≡ x = cc in
+    let l : length (d .packet) ≤ room = omega (read, m) in
     rw q at l
-settle-size room (Refused r) x h = let z : _≡_ {A = ℕ} 0 1 = cc in absurd (omega arith)
 
 pub sent6-size : (p t : List ℕ) (room : ℕ) (x : List ℕ) → translate6 p t room ≡ Sent x → length x ≤ room
-unfolding translate6
-sent6-size p t room x h = settle-size room (decide6 p t) x h
+unfolding translate6 rows6
+sent6-size p t room x h = room-size room (decide6 p t) x h
 
 pub sent4-size : (p t : List ℕ) (room : ℕ) (x : List ℕ) → translate4 p t room ≡ Sent x → length x ≤ room
-unfolding translate4
-sent4-size p t room x h = settle-size room (decide4 p t) x h
-
--- THE ANSWER IN ONE NUMBER
-
--- number 0 and the length
-pub sent-number : (x : List ℕ) → (packed (Sent x) % 256 ≡ 0) × (packed (Sent x) / 0x10000000000 ≡ length x)
-unfolding packed
-sent-number x = omega arith
-
--- number, ICMP type, code and pointer, and length 0
-pub refused-number : (r : Refusal) → r .number < 256 → r .icmpType < 256 → r .icmpCode < 256 → r .pointer < 65536
-    → (packed (Refused r) % 256 ≡ r .number) × ((packed (Refused r) / 0x100 % 256 ≡ r .icmpType) × ((packed (Refused r) / 0x10000 % 256 ≡ r .icmpCode)
-    × ((packed (Refused r) / 0x1000000 % 65536 ≡ r .pointer) × (packed (Refused r) / 0x10000000000 ≡ 0))))
-unfolding packed
-refused-number r hn ht hc hp = omega arith
+unfolding translate4 rows4
+sent4-size p t room x h = room-size room (decide4 p t) x h

@@ -16,18 +16,18 @@ use Rattle.rules.specs.Srh.{segment, srh}
 use Rattle.rules.specs.Checksum.{onesSum}
 use Rattle.rules.specs.Gtpu.{udp}
 use Rattle.rules.specs.Args.{argsOctets, argsAt, withArgs}
-use Rattle.rules.specs.Answer.{Outcome, Sent, Refused, verdict, settle, overlay}
+use Rattle.rules.specs.Answer.{Outcome, Sent, Refused, verdict, overlay}
 use Rattle.rules.specs.Header.{header}
 use Rattle.rules.specs.Datagram.{innerRows, datagram, messageRows, gPduRows}
 use Rattle.rules.specs.Session.{innerProtocol, accepts}
 use Rattle.rules.specs.Carried.{carriedBy, carried6, carried4}
-use Rattle.rules.specs.Waypoint.{withRouting, forwarded, waypointRows, stepRows, atWaypoint}
-use Rattle.rules.specs.Gtp6D.{gtp6DPacket, gtp6Rows, atGtp6D}
-use Rattle.rules.specs.D.{dPath, dPacket, atD}
-use Rattle.rules.specs.Di.{diPath, diPacket, atDi}
-use Rattle.rules.specs.E6.{e6Carried, e6Packet, e6Rows, atE6}
+use Rattle.rules.specs.Waypoint.{withRouting, forwarded, waypointRows, stepRows}
+use Rattle.rules.specs.Gtp6D.{gtp6DPacket, gtp6Rows, rowsGtp6D}
+use Rattle.rules.specs.D.{dPath, dPacket}
+use Rattle.rules.specs.Di.{diPath, diPacket}
+use Rattle.rules.specs.E6.{e6Carried, e6Packet, e6Rows, rowsE6}
 use Rattle.rules.specs.D4.{d4Sid, d4Source}
-use Rattle.rules.specs.Calls.{frontRows6, atEntry, atFoundEntry, decide6, translate6}
+use Rattle.rules.specs.Calls.{decideEntry, decideFoundEntry, frontRows6, rows6, translate6}
 use Rattle.rules.specs.Trip.{Stop, v6, trip}
 use Rattle.rules.proofs.Samples as Samples
 use Rattle.rules.proofs.Samples.{sidOf, gateway6, argsOf, table, values4, packet6}
@@ -122,5 +122,5 @@ examples =
     ∷ []
 
 pub worked : T (right examples)
-unfolding examples window number splice firstBits under clear entryAt ruleAt policyAt addressesAt longest matchEntry matchRule all headerSound entrySound ruleSound policySound sameEntryPrefix sameRulePrefix distinct soundWithin segment onesSum argsAt withArgs verdict settle overlay header datagram messageRows gPduRows innerProtocol accepts carriedBy carried6 carried4 withRouting forwarded waypointRows stepRows atWaypoint gtp6DPacket gtp6Rows innerRows atGtp6D dPath dPacket atD diPath diPacket atDi e6Carried e6Packet e6Rows atE6 d4Sid d4Source frontRows6 atEntry atFoundEntry decide6 translate6 trip
+unfolding examples window number splice firstBits under clear entryAt ruleAt policyAt addressesAt longest matchEntry matchRule all headerSound entrySound ruleSound policySound sameEntryPrefix sameRulePrefix distinct soundWithin segment onesSum argsAt withArgs verdict overlay header datagram messageRows gPduRows innerProtocol accepts carriedBy carried6 carried4 withRouting forwarded waypointRows stepRows gtp6DPacket gtp6Rows innerRows rowsGtp6D dPath dPacket diPath diPacket e6Carried e6Packet e6Rows rowsE6 d4Sid d4Source frontRows6 decideEntry decideFoundEntry rows6 translate6 trip
 worked = tt

@@ -1,8 +1,8 @@
 -- The answer table: ordered rows, each with its tests, number and ICMP fields. The first row with a test that holds answers.
-use mathlib.Core.Bool.{Bool, true, false, not, cond, _||_}
-use mathlib.Core.List.{List, [], _∷_}
-use Prim.Native.Nat.{ℕ, _+_, _*_}
-use lib.Dec.{eqb, ltb}
+use mathlib.Core.Bool.{Bool, true, false, not, cond, _&&_, _||_}
+use mathlib.Core.List.{List, [], _∷_, _++_}
+use Prim.Native.Nat.{ℕ, suc, _+_, _*_}
+use lib.Dec.{eqb, leb, ltb}
 use lib.ListN.{length}
 use Rattle.rules.specs.Octets.{splice}
 use Rattle.rules.specs.Assigned.{timeExceeded, parameterProblem}
@@ -60,6 +60,30 @@ lengthRow lengthField = row (ltb 65535 lengthField ∷ []) 15
 abbrev pub roomRow : (room : ℕ) (result : List ℕ) → Row
 roomRow room result = row (ltb room (length result) ∷ []) 16
 
+-- THE PLACES OF ROWS
+
+-- The answer numbers in the order of their rows: of those that apply the first is given. It is the order of size, so the smallest.
+abbrev pub places : List ℕ
+places = 1 ∷ 2 ∷ 3 ∷ 4 ∷ 5 ∷ 6 ∷ 7 ∷ 8 ∷ 9 ∷ 10 ∷ 11 ∷ 12 ∷ 13 ∷ 14 ∷ 15 ∷ 16 ∷ []
+
+-- where a number first stands in a list; at its end where it does not
+abbrev pub position : (n : ℕ) → List ℕ → ℕ
+position n [] = 0
+position n (m ∷ ms) = cond (eqb n m) 0 (suc (position n ms))
+
+unfoldable pub place : (number : ℕ) → ℕ
+place number = position number places
+
+-- rows in their places, from place k on: each behind the one before it
+abbrev pub inPlace : (k : ℕ) → List Row → Bool
+inPlace k [] = true
+inPlace k (r ∷ rs) = leb k (place (r .refusal .number)) && inPlace (suc (place (r .refusal .number))) rs
+
+-- a test of the row with a number holds
+abbrev pub applies : (number : ℕ) → List Row → Bool
+applies number [] = false
+applies number (r ∷ rs) = cond (eqb number (r .refusal .number)) (any (r .tests)) (applies number rs)
+
 -- what rows in their order say
 unfoldable pub verdict : List Row → Verdict
 verdict [] = Pass
@@ -85,7 +109,19 @@ after (Refuse r) o = Refused r
 abbrev pub unless : List Row → Outcome → Outcome
 unless rows o = after (verdict rows) o
 
--- A call is decided as if there were room; then the room is looked at, and by row 16 alone.
+-- Rows in their order, and the packet that is sent where none applies: what a behaviour and a call decide.
+pub record Decision : Type 0 where
+  pub rows : List Row
+  pub packet : List ℕ
+
+abbrev pub outcome : Decision → Outcome
+outcome d = unless (d .rows) (Sent (d .packet))
+
+-- row 16 is behind all others
+abbrev pub inRoom : (room : ℕ) → Decision → Decision
+inRoom room d = record { rows = d .rows ++ roomRow room (d .packet) ∷ []; packet = d .packet }
+
+-- the same of an outcome: it is decided as if there were room, then the room is looked at, and by row 16 alone
 unfoldable pub settle : (room : ℕ) → Outcome → Outcome
 settle room (Sent x) = unless (roomRow room x ∷ []) (Sent x)
 settle room (Refused r) = Refused r

@@ -1,6 +1,6 @@
 -- The two calls: from packet octets, table octets and room to what is sent or a refusal.
-use mathlib.Core.Bool.{Bool, not, cond}
-use mathlib.Core.List.{List, [], _∷_}
+use mathlib.Core.Bool.{Bool, true, false, not, cond}
+use mathlib.Core.List.{List, [], _∷_, _++_}
 use Prim.Native.Nat.{ℕ}
 use lib.Dec.{eqb}
 use Rattle.rules.specs.Assigned.{end, endMGtp6D, endMGtp6DDi, endMGtp6E}
@@ -10,14 +10,14 @@ use Rattle.rules.specs.Ipv6 as Ipv6
 use Rattle.rules.specs.Ipv4 as Ipv4
 use Rattle.rules.specs.Sound.{sound}
 use Rattle.rules.specs.Match.{matchEntry, matchRule}
-use Rattle.rules.specs.Answer.{Row, row, plain, Outcome, Refused, unless, settle}
+use Rattle.rules.specs.Answer.{Row, row, Decision, Outcome, Sent, outcome, unless, inRoom}
 use Rattle.rules.specs.Header.{header, malformed}
-use Rattle.rules.specs.Waypoint.{atWaypoint}
-use Rattle.rules.specs.D.{atD}
-use Rattle.rules.specs.Di.{atDi}
-use Rattle.rules.specs.E6.{atE6}
-use Rattle.rules.specs.E4.{atE4}
-use Rattle.rules.specs.D4.{header4, malformed4, badHeader4, atD4}
+use Rattle.rules.specs.Waypoint.{decideWaypoint}
+use Rattle.rules.specs.D.{decideD}
+use Rattle.rules.specs.Di.{decideDi}
+use Rattle.rules.specs.E6.{decideE6}
+use Rattle.rules.specs.E4.{decideE4}
+use Rattle.rules.specs.D4.{header4, malformed4, badHeader4, decideD4}
 use Rattle.rules.specs.declared.Header.{Header}
 use Rattle.rules.specs.declared.Header4.{Header4}
 use Rattle.rules.specs.declared.Found.{Found}
@@ -28,25 +28,40 @@ abbrev pub unsoundRow : (t : List ℕ) → Row
 unsoundRow t = row (not (sound t) ∷ []) 1
 
 -- row 4: no entry or rule matches
-abbrev pub unmatched : Outcome
-unmatched = Refused (plain 4)
+abbrev pub nothing : Found → Bool
+nothing Nothing = true
+nothing (At i) = false
+
+abbrev pub unmatchedRow : Found → Row
+unmatchedRow found = row (nothing found ∷ []) 4
 
 -- an IPv6 packet at an entry that matches; the last behaviour that a sound table may name is E4
+unfoldable pub decideEntry : (t e p : List ℕ) → Decision
+decideEntry t e p =
+    cond (eqb (Entry.behaviour e) end) (decideWaypoint p)
+    (cond (eqb (Entry.behaviour e) endMGtp6D) (decideD e (policyAt t (Entry.policy e)) p)
+    (cond (eqb (Entry.behaviour e) endMGtp6DDi) (decideDi e (policyAt t (Entry.policy e)) p)
+    (cond (eqb (Entry.behaviour e) endMGtp6E) (decideE6 e p) (decideE4 e p))))
+
 unfoldable pub atEntry : (t e p : List ℕ) → Outcome
-atEntry t e p =
-    cond (eqb (Entry.behaviour e) end) (atWaypoint p)
-    (cond (eqb (Entry.behaviour e) endMGtp6D) (atD e (policyAt t (Entry.policy e)) p)
-    (cond (eqb (Entry.behaviour e) endMGtp6DDi) (atDi e (policyAt t (Entry.policy e)) p)
-    (cond (eqb (Entry.behaviour e) endMGtp6E) (atE6 e p) (atE4 e p))))
+atEntry t e p = outcome (decideEntry t e p)
+
+-- rows from 4 on, with the entry and with the rule that is found; where none is, row 4 refuses and no packet is made
+unfoldable pub decideFoundEntry : (t p : List ℕ) → Found → Decision
+decideFoundEntry t p Nothing = record { rows = unmatchedRow Nothing ∷ []; packet = [] }
+decideFoundEntry t p (At i) =
+    record { rows = unmatchedRow (At i) ∷ decideEntry t (entryAt t i) p .rows; packet = decideEntry t (entryAt t i) p .packet }
+
+unfoldable pub decideFoundRule : (t p : List ℕ) → Found → Decision
+decideFoundRule t p Nothing = record { rows = unmatchedRow Nothing ∷ []; packet = [] }
+decideFoundRule t p (At k) =
+    record { rows = unmatchedRow (At k) ∷ decideD4 (ruleAt t k) p .rows; packet = decideD4 (ruleAt t k) p .packet }
 
 unfoldable pub atFoundEntry : (t p : List ℕ) → Found → Outcome
-atFoundEntry t p Nothing = unmatched
-atFoundEntry t p (At i) = atEntry t (entryAt t i) p
+atFoundEntry t p found = outcome (decideFoundEntry t p found)
 
--- an IPv4 packet at a rule that matches
 unfoldable pub atFoundRule : (t p : List ℕ) → Found → Outcome
-atFoundRule t p Nothing = unmatched
-atFoundRule t p (At k) = atD4 (ruleAt t k) p
+atFoundRule t p found = outcome (decideFoundRule t p found)
 
 -- rows 1 and 2; over IPv4 rows 1, 2 and 3
 unfoldable pub frontRows6 : (t : List ℕ) → Header → List Row
@@ -56,15 +71,26 @@ unfoldable pub frontRows4 : (t : List ℕ) → Header4 → List Row
 frontRows4 t h = unsoundRow t ∷ row (malformed4 h) 2 ∷ row (badHeader4 h) 3 ∷ []
 
 -- what is decided, as if there were room
-unfoldable pub decide6 : (packet table : List ℕ) → Outcome
-decide6 p t = unless (frontRows6 t (header p)) (atFoundEntry t p (matchEntry t (Ipv6.destination p)))
+abbrev pub decide6 : (packet table : List ℕ) → Decision
+decide6 p t =
+    let d = decideFoundEntry t p (matchEntry t (Ipv6.destination p)) in
+    record { rows = frontRows6 t (header p) ++ d .rows; packet = d .packet }
 
-unfoldable pub decide4 : (packet table : List ℕ) → Outcome
-decide4 p t = unless (frontRows4 t (header4 p)) (atFoundRule t p (matchRule t (Ipv4.destination p)))
+abbrev pub decide4 : (packet table : List ℕ) → Decision
+decide4 p t =
+    let d = decideFoundRule t p (matchRule t (Ipv4.destination p)) in
+    record { rows = frontRows4 t (header4 p) ++ d .rows; packet = d .packet }
+
+-- all rows of the IPv6 call and of the IPv4 call
+unfoldable pub rows6 : (packet table : List ℕ) (room : ℕ) → List Row
+rows6 p t room = inRoom room (decide6 p t) .rows
+
+unfoldable pub rows4 : (packet table : List ℕ) (room : ℕ) → List Row
+rows4 p t room = inRoom room (decide4 p t) .rows
 
 -- the IPv6 call and the IPv4 call
 unfoldable pub translate6 : (packet table : List ℕ) (room : ℕ) → Outcome
-translate6 p t room = settle room (decide6 p t)
+translate6 p t room = unless (rows6 p t room) (Sent (decide6 p t .packet))
 
 unfoldable pub translate4 : (packet table : List ℕ) (room : ℕ) → Outcome
-translate4 p t room = settle room (decide4 p t)
+translate4 p t room = unless (rows4 p t room) (Sent (decide4 p t .packet))

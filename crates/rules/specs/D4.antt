@@ -9,7 +9,7 @@ use Rattle.rules.specs.Rule as Rule
 use Rattle.rules.specs.Ipv4 as Ipv4
 use Rattle.rules.specs.Args.{withArgs}
 use Rattle.rules.specs.E4.{startBehind}
-use Rattle.rules.specs.Answer.{Row, row, differs, Outcome, Sent, unless}
+use Rattle.rules.specs.Answer.{Row, row, differs, Decision, Outcome, outcome}
 use Rattle.rules.specs.Datagram.{datagram, notGtpu, messageRows, gPduRows, innerRows}
 use Rattle.rules.specs.Carried.{Carried, carried4, datagramIn4}
 use Rattle.rules.specs.Session.{innerProtocol}
@@ -72,10 +72,14 @@ abbrev pub d4Rows : (r inner : List ℕ) → List Row
 d4Rows r inner =
     innerRows (Rule.session r) (length inner) (octet inner 0) (pastWaypointsPayload (Rule.waypoints r) inner)
 
-unfoldable pub atD4 : (r p : List ℕ) → Outcome
-atD4 r p =
+-- all rows of D4, 8 to 15
+unfoldable pub rowsD4 : (r p : List ℕ) → List Row
+rowsD4 r p =
     let g = datagram (datagramIn4 p) in
-    unless (gtp4Rows (header4 p) g)
-    (unless (messageRows g)
-    (unless (gPduRows (Rule.direction r) g)
-    (unless (d4Rows r (carried4 p .inner)) (Sent (d4Packet r (carried4 p))))))
+    gtp4Rows (header4 p) g ++ (messageRows g ++ (gPduRows (Rule.direction r) g ++ d4Rows r (carried4 p .inner)))
+
+abbrev pub decideD4 : (r p : List ℕ) → Decision
+decideD4 r p = record { rows = rowsD4 r p; packet = d4Packet r (carried4 p) }
+
+unfoldable pub atD4 : (r p : List ℕ) → Outcome
+atD4 r p = outcome (decideD4 r p)

@@ -1,6 +1,6 @@
 -- E4: End.M.GTP4.E (RFC 9433, 6.6).
 use mathlib.Core.Bool.{not}
-use mathlib.Core.List.{List, [], _∷_}
+use mathlib.Core.List.{List, [], _∷_, _++_}
 use Prim.Native.Nat.{ℕ, _+_, _*_}
 use lib.ListN.{length, drop}
 use Rattle.rules.specs.Octets.{window}
@@ -9,7 +9,7 @@ use Rattle.rules.specs.Ipv6 as Ipv6
 use Rattle.rules.specs.Ipv4 as Ipv4
 use Rattle.rules.specs.Args.{argsAt}
 use Rattle.rules.specs.Gtpu.{datagramOctets}
-use Rattle.rules.specs.Answer.{Row, row, segmentsLeftRow, upperLayerRow, lengthRow, Outcome, Sent, unless}
+use Rattle.rules.specs.Answer.{Row, row, segmentsLeftRow, upperLayerRow, lengthRow, Decision, Outcome, outcome}
 use Rattle.rules.specs.Header.{header, badChain, segmentsRemain}
 use Rattle.rules.specs.Session.{accepts}
 use Rattle.rules.specs.Carried.{Carried}
@@ -45,6 +45,12 @@ e4Rows e h =
     ∷ upperLayerRow (not (accepts (Entry.session e) (h .upper)) ∷ []) (h .upperAt)
     ∷ []
 
+-- all rows of E4
+unfoldable pub rowsE4 : (e p : List ℕ) → List Row
+rowsE4 e p = e4Rows e (header p) ++ lengthRow (e4TotalLength (e4Carried e p .inner)) ∷ []
+
+abbrev pub decideE4 : (e p : List ℕ) → Decision
+decideE4 e p = record { rows = rowsE4 e p; packet = e4Packet e (e4Carried e p) }
+
 unfoldable pub atE4 : (e p : List ℕ) → Outcome
-atE4 e p =
-    unless (e4Rows e (header p)) (unless (lengthRow (e4TotalLength (e4Carried e p .inner)) ∷ []) (Sent (e4Packet e (e4Carried e p))))
+atE4 e p = outcome (decideE4 e p)

@@ -1,6 +1,6 @@
 -- E6: End.M.GTP6.E (RFC 9433, 6.5).
 use mathlib.Core.Bool.{not}
-use mathlib.Core.List.{List, [], _∷_}
+use mathlib.Core.List.{List, [], _∷_, _++_}
 use Prim.Native.Nat.{ℕ, _+_}
 use lib.ListN.{length, drop}
 use Rattle.rules.specs.Assigned.{udpProtocol}
@@ -9,7 +9,7 @@ use Rattle.rules.specs.Ipv6 as Ipv6
 use Rattle.rules.specs.Srh as Srh
 use Rattle.rules.specs.Args.{argsAt}
 use Rattle.rules.specs.Gtpu.{datagramOctets}
-use Rattle.rules.specs.Answer.{Row, row, segmentsLeftRow, upperLayerRow, lengthRow, differs, Outcome, Sent, unless}
+use Rattle.rules.specs.Answer.{Row, row, segmentsLeftRow, upperLayerRow, lengthRow, differs, Decision, Outcome, outcome}
 use Rattle.rules.specs.Header.{header, hasSrh, badChain, beyondHeld}
 use Rattle.rules.specs.Session.{accepts}
 use Rattle.rules.specs.Carried.{Carried}
@@ -41,6 +41,12 @@ e6Rows e h =
     ∷ upperLayerRow (not (accepts (Entry.session e) (h .upper)) ∷ []) (h .upperAt)
     ∷ []
 
+-- all rows of E6
+unfoldable pub rowsE6 : (e p : List ℕ) → List Row
+rowsE6 e p = e6Rows e (header p) ++ lengthRow (e6Payload (e6Carried e p .inner)) ∷ []
+
+abbrev pub decideE6 : (e p : List ℕ) → Decision
+decideE6 e p = record { rows = rowsE6 e p; packet = e6Packet e (e6Carried e p) }
+
 unfoldable pub atE6 : (e p : List ℕ) → Outcome
-atE6 e p =
-    unless (e6Rows e (header p)) (unless (lengthRow (e6Payload (e6Carried e p .inner)) ∷ []) (Sent (e6Packet e (e6Carried e p))))
+atE6 e p = outcome (decideE6 e p)

@@ -1,10 +1,10 @@
 -- What D and Di share: a G-PDU in IPv6 becomes an SRv6 packet along a path.
-use mathlib.Core.List.{List, [], _∷_}
+use mathlib.Core.List.{List, [], _∷_, _++_}
 use lib.ListN.{length}
 use Prim.Native.Nat.{ℕ}
 use Rattle.rules.specs.Octets.{octet}
 use Rattle.rules.specs.Entry as Entry
-use Rattle.rules.specs.Answer.{Row, row, segmentsLeftRow, upperLayerRow, Outcome, Sent, unless}
+use Rattle.rules.specs.Answer.{Row, row, segmentsLeftRow, upperLayerRow, Decision, Outcome, outcome}
 use Rattle.rules.specs.Header.{header, badChain, segmentsRemain}
 use Rattle.rules.specs.Datagram.{datagram, notGtpu, messageRows, gPduRows, innerRows}
 use Rattle.rules.specs.Carried.{Carried, carried6, datagramIn6}
@@ -27,11 +27,15 @@ gtp6Rows h g =
 abbrev pub gtp6DRows : (e : List ℕ) (path : List (List ℕ)) (inner : List ℕ) → List Row
 gtp6DRows e path inner = innerRows (Entry.session e) (length inner) (octet inner 0) (srv6Payload path inner)
 
--- a packet p at the entry e, from which a packet along a path is made
-unfoldable pub atGtp6D : (e : List ℕ) (path : List (List ℕ)) (made p : List ℕ) → Outcome
-atGtp6D e path made p =
+-- all rows of D and Di, 5 to 15
+unfoldable pub rowsGtp6D : (e : List ℕ) (path : List (List ℕ)) (p : List ℕ) → List Row
+rowsGtp6D e path p =
     let g = datagram (datagramIn6 p) in
-    unless (gtp6Rows (header p) g)
-    (unless (messageRows g)
-    (unless (gPduRows (Entry.direction e) g)
-    (unless (gtp6DRows e path (carried6 p .inner)) (Sent made))))
+    gtp6Rows (header p) g ++ (messageRows g ++ (gPduRows (Entry.direction e) g ++ gtp6DRows e path (carried6 p .inner)))
+
+-- a packet p at the entry e, from which a packet along a path is made
+abbrev pub decideGtp6D : (e : List ℕ) (path : List (List ℕ)) (made p : List ℕ) → Decision
+decideGtp6D e path made p = record { rows = rowsGtp6D e path p; packet = made }
+
+unfoldable pub atGtp6D : (e : List ℕ) (path : List (List ℕ)) (made p : List ℕ) → Outcome
+atGtp6D e path made p = outcome (decideGtp6D e path made p)

@@ -1,3 +1,4 @@
+pub mod Exactly
 pub mod Octets
 pub mod Prefix
 pub mod Args
@@ -32,3 +33,5 @@ pub mod Trip
 pub mod Demand3
 pub mod Written
 pub mod Sent
+pub mod Refused
+pub mod Given

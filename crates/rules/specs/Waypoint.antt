@@ -6,7 +6,7 @@ use lib.Dec.{leb, ltb}
 use Rattle.rules.specs.Octets.{splice}
 use Rattle.rules.specs.Ipv6 as Ipv6
 use Rattle.rules.specs.Srh as Srh
-use Rattle.rules.specs.Answer.{Row, row, hopLimitRow, segmentsLeftRow, upperLayerRow, given, Outcome, Sent, unless}
+use Rattle.rules.specs.Answer.{Row, row, hopLimitRow, segmentsLeftRow, upperLayerRow, given, Decision, Outcome, outcome}
 use Rattle.rules.specs.Header.{header, hasSrh, badChain, beyondHeld}
 use Rattle.rules.specs.declared.Header.{Header}
 
@@ -42,8 +42,12 @@ stepRows segmentsLeft hopLimit h =
     ∷ upperLayerRow (not (underway segmentsLeft h) ∷ []) (h .upperAt)
     ∷ []
 
+-- all rows of a waypoint
 unfoldable pub waypointRows : Header → List Row
 waypointRows h = row (badChain h) 5 ∷ stepRows (h .segmentsLeft) (h .hopLimit) h
 
+abbrev pub decideWaypoint : List ℕ → Decision
+decideWaypoint p = record { rows = waypointRows (header p); packet = forwarded p }
+
 unfoldable pub atWaypoint : List ℕ → Outcome
-atWaypoint p = unless (waypointRows (header p)) (Sent (forwarded p))
+atWaypoint p = outcome (decideWaypoint p)

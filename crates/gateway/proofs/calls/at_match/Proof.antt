@@ -1,3 +1,4 @@
+use Rattle.rules.proofs.Deciding.{at-found-entry, at-no-entry}
 use Rattle.table.proofs.Bounds.{entries-within}
 use Rattle.rules.specs.declared.Found.{Found}
 use Rattle.rules.specs.Calls.{atFoundEntry}
@@ -47,27 +48,26 @@ at-entry-requires c κs =
     (s .pre .0, m ∙ c .before .before .found .given .1, s .pre .1, s .pre .2)
 
 returns : tie.Need-returns
-unfolding atFoundEntry settle
+unfolding settle
 returns c =
     let s = c .before .before .before .before .before .before .before .before .before in
     let a = s .args in
     let p : List ℕ = now (a .packet) in
     let t : List ℕ = now (a .table) in
     let m = sym (c .before .before .before .find-entry .ensures ∙ ap (matchEntry t) (c .before .before .before .before .before .window16 .ensures)) in
-    answered-refused _ (plain 4) _ _ (ap (λ (f : Found). settle (length (now (a .out))) (atFoundEntry t p f)) (m ∙ c .before .enum-told .given .1)) (c .plain .ensures)
+    answered-refused _ (plain 4) _ _ (ap (λ (f : Found). settle (length (now (a .out))) (atFoundEntry t p f)) (m ∙ c .before .enum-told .given .1) ∙ ap (settle (length (now (a .out)))) (at-no-entry t p)) (c .plain .ensures)
 
 same-length : tie.Need-same-length
 same-length c = search needs
 
 returns-2 : tie.Need-returns-2
-unfolding atFoundEntry
 returns-2 c =
     let s = c .before .before .before .before .before .before .before .before .before .before .before .before .before in
     let a = s .args in
     let p : List ℕ = now (a .packet) in
     let t : List ℕ = now (a .table) in
     let m = sym (c .before .before .before .before .before .before .before .find-entry .ensures ∙ ap (matchEntry t) (c .before .before .before .before .before .before .before .before .before .window16 .ensures)) in
-    answered-as _ _ _ _ _ (ap (λ (f : Found). settle (length (now (a .out))) (atFoundEntry t p f)) (sym (m ∙ c .before .before .before .before .before .found .given .1))) (c .before .before .at-entry .ensures)
+    answered-as _ _ _ _ _ (ap (settle (length (now (a .out)))) (sym (at-found-entry t p _)) ∙ ap (λ (f : Found). settle (length (now (a .out))) (atFoundEntry t p f)) (sym (m ∙ c .before .before .before .before .before .found .given .1))) (c .before .before .at-entry .ensures)
 
 pub at-match-spec : {M : Type 1} → statement M
 at-match-spec =

@@ -1,3 +1,4 @@
+use Rattle.rules.proofs.Deciding.{at-found-rule, at-no-rule}
 use Rattle.table.proofs.Bounds.{rules-within, found-rule-within}
 use Rattle.rules.proofs.Tables.{found-rule}
 use Rattle.rules.specs.declared.Found.{Found}
@@ -62,27 +63,26 @@ at-d4-requires c κs =
     (l .long, rw (l .same) (q .p), rw (l .same) (q .q), rw (l .same) (q .waypoints), s .pre .1)
 
 returns : tie.Need-returns
-unfolding atFoundRule settle
+unfolding settle
 returns c =
     let s = c .before .before .before .before .before .before .before .before .before in
     let a = s .args in
     let p : List ℕ = now (a .packet) in
     let t : List ℕ = now (a .table) in
     let m = sym (c .before .before .before .find-rule .ensures ∙ ap (matchRule t) (c .before .before .before .before .before .window4 .ensures)) in
-    answered-refused _ (plain 4) _ _ (ap (λ (f : Found). settle (length (now (a .out))) (atFoundRule t p f)) (m ∙ c .before .enum-told .given .1)) (c .plain .ensures)
+    answered-refused _ (plain 4) _ _ (ap (λ (f : Found). settle (length (now (a .out))) (atFoundRule t p f)) (m ∙ c .before .enum-told .given .1) ∙ ap (settle (length (now (a .out)))) (at-no-rule t p)) (c .plain .ensures)
 
 same-length : tie.Need-same-length
 same-length c = search needs
 
 returns-2 : tie.Need-returns-2
-unfolding atFoundRule
 returns-2 c =
     let s = c .before .before .before .before .before .before .before .before .before .before .before .before .before .before in
     let a = s .args in
     let p : List ℕ = now (a .packet) in
     let t : List ℕ = now (a .table) in
     let m = sym (c .before .before .before .before .before .before .before .before .find-rule .ensures ∙ ap (matchRule t) (c .before .before .before .before .before .before .before .before .before .before .window4 .ensures)) in
-    answered-as _ _ _ _ _ (ap (λ (r : List ℕ). settle (length (now (a .out))) (atD4 r p)) (c .before .before .before .before .rule-at .ensures .same) ∙ ap (λ (f : Found). settle (length (now (a .out))) (atFoundRule t p f)) (sym (m ∙ c .before .before .before .before .before .before .found .given .1))) (c .before .before .at-d4 .ensures)
+    answered-as _ _ _ _ _ (ap (λ (r : List ℕ). settle (length (now (a .out))) (atD4 r p)) (c .before .before .before .before .rule-at .ensures .same) ∙ ap (settle (length (now (a .out)))) (sym (at-found-rule t p _)) ∙ ap (λ (f : Found). settle (length (now (a .out))) (atFoundRule t p f)) (sym (m ∙ c .before .before .before .before .before .before .found .given .1))) (c .before .before .at-d4 .ensures)
 
 pub at-match4-spec : {M : Type 1} → statement M
 at-match4-spec =

@@ -1,0 +1,147 @@
+-- The first row that applies is given, whatever the list, where its rows stand in their places.
+use mathlib.Core.Path.{_≡_, refl, sym, ap, _∙_}
+use mathlib.Core.Bool.{Bool, true, false, cond, true≢false}
+use mathlib.Core.List.{List, [], _∷_}
+use Prim.Native.Nat.{ℕ, suc, _≤_, _<_}
+use native.Mathlib.Omega.{arith}
+use native.Mathlib.Decide.{ℕ-discrete, decLt}
+use lib.Dec.{eqb, leb}
+use borrow.Author.Tests.{leb-true, eq-eqb, ne-eqb}
+use Rattle.rules.specs.Answer.{Row, any, verdict, place, inPlace, applies, Decision, Outcome, Sent, Refused, after, outcome}
+use Rattle.rules.specs.Given.{First, GoesBy}
+use Rattle.rules.specs.declared.Refusal.{Refusal}
+use Rattle.rules.specs.declared.Verdict.{Verdict}
+use Rattle.rules.specs.declared.Verdict.the-variants.{Pass, Refuse}
+use Rattle.rules.proofs.Conditions.{and-left, and-right}
+
+-- THE ROW IN FRONT
+
+module _ (r : Row) (rs : List Row) where
+  here : applies (r .refusal .number) (r ∷ rs) ≡ any (r .tests)
+  here = rw (eq-eqb (r .refusal .number) (r .refusal .number) refl)
+
+  further : (n : ℕ) → (n ≡ r .refusal .number → ⊥) → applies n (r ∷ rs) ≡ applies n rs
+  further n h = rw (ne-eqb n (r .refusal .number) h)
+
+  module _ (k : ℕ) (o : inPlace k (r ∷ rs) ≡ true) where
+    at-least : k ≤ place (r .refusal .number)
+    at-least = leb-true _ _ (and-left (leb k (place (r .refusal .number))) (inPlace (suc (place (r .refusal .number))) rs) o)
+
+    rest : inPlace (suc (place (r .refusal .number))) rs ≡ true
+    rest = and-right (leb k (place (r .refusal .number))) (inPlace (suc (place (r .refusal .number))) rs) o
+
+apart : (m n : ℕ) → place m < place n → n ≡ m → ⊥
+apart m n l e = let q : place n ≡ place m = ap place e in omega arith
+
+apart′ : (m n : ℕ) → place m < place n → m ≡ n → ⊥
+apart′ m n l e = let q : place m ≡ place n = ap place e in omega arith
+
+-- a number whose place is before all of a list has no row there
+early : (rs : List Row) (k n : ℕ) → inPlace k rs ≡ true → place n < k → applies n rs ≡ false
+early [] k n o l = refl
+early (r ∷ rs) k n o l =
+    let g = at-least r rs k o in
+    further r rs n (apart′ n (r .refusal .number) (omega arith)) ∙ early rs (suc (place (r .refusal .number))) n (rest r rs k o) (omega arith)
+
+late : (rs : List Row) (k n : ℕ) → inPlace k rs ≡ true → applies n rs ≡ true → k ≤ place n
+late rs k n o h = go (decLt (place n) k)
+  where
+    go : Dec (place n < k) → k ≤ place n
+    go (yes l) = absurd (true≢false (sym h ∙ early rs k n o l))
+    go (no d) = omega arith
+
+-- A LIST OF ROWS
+
+-- a refusal has the first number that applies
+refused-first : (rs : List Row) (k : ℕ) (ρ : Refusal) → inPlace k rs ≡ true → verdict rs ≡ Refuse ρ → First (λ n. applies n rs) (ρ .number)
+unfolding verdict
+refused-first [] k ρ o h = let z : _≡_ {A = ℕ} 0 1 = cc in absurd (omega arith)
+refused-first (r ∷ rs) k ρ o h = go (any (r .tests)) refl h (λ e. refused-first rs (suc (place (r .refusal .number))) ρ (rest r rs k o) e)
+  where
+    go : (b : Bool) → any (r .tests) ≡ b → cond b (Refuse (r .refusal)) (verdict rs) ≡ Refuse ρ → (verdict rs ≡ Refuse ρ → First (λ n. applies n rs) (ρ .number))
+        → First (λ n. applies n (r ∷ rs)) (ρ .number)
+    go true e h ih =
+        let q : r .refusal .number ≡ ρ .number = cc in
+        rw (← q) (record {
+          itself = here r rs ∙ e;
+          before = λ n l. further r rs n (apart′ n (r .refusal .number) l) ∙ early rs (suc (place (r .refusal .number))) n (rest r rs k o) (omega arith);
+        })
+    go false e h ih =
+        let f = ih h in
+        let l = late rs (suc (place (r .refusal .number))) (ρ .number) (rest r rs k o) (f .itself) in
+        record { itself = further r rs (ρ .number) (apart (r .refusal .number) (ρ .number) l) ∙ f .itself; before = λ n m. pick (f .before n m) (ℕ-discrete n (r .refusal .number)) }
+      where
+        pick : {n : ℕ} → applies n rs ≡ false → Dec (n ≡ r .refusal .number) → applies n (r ∷ rs) ≡ false
+        pick g (yes q) = ap (λ (m : ℕ). applies m (r ∷ rs)) q ∙ here r rs ∙ e
+        pick g (no d) = further r rs _ d ∙ g
+
+-- and the first number that applies is refused with
+first-refused : (rs : List Row) (k n : ℕ) → inPlace k rs ≡ true → First (λ n. applies n rs) n
+    → (ρ : Refusal) × ((verdict rs ≡ Refuse ρ) × (ρ .number ≡ n))
+unfolding verdict
+first-refused [] k n o f = absurd (true≢false (sym (f .itself)))
+first-refused (r ∷ rs) k n o f =
+    go (any (r .tests)) refl (ℕ-discrete n (r .refusal .number)) (first-refused rs (suc (place (r .refusal .number))) n (rest r rs k o))
+  where
+    -- a later number than the row's own, though the row applies
+    not-first : any (r .tests) ≡ true → (n ≡ r .refusal .number → ⊥) → ⊥
+    not-first e d =
+        let l = late rs (suc (place (r .refusal .number))) n (rest r rs k o) (sym (further r rs n d) ∙ f .itself) in
+        true≢false (sym e ∙ sym (here r rs) ∙ f .before (r .refusal .number) l)
+
+    behind : (n ≡ r .refusal .number → ⊥) → First (λ n. applies n rs) n
+    behind d = record { itself = sym (further r rs n d) ∙ f .itself; before = λ m l. pick m (f .before m l) (ℕ-discrete m (r .refusal .number)) }
+      where
+        pick : (m : ℕ) → applies m (r ∷ rs) ≡ false → Dec (m ≡ r .refusal .number) → applies m rs ≡ false
+        pick m g (yes q) = let p : place m ≡ place (r .refusal .number) = ap place q in early rs (suc (place (r .refusal .number))) m (rest r rs k o) (omega arith)
+        pick m g (no c) = sym (further r rs m c) ∙ g
+
+    go : (b : Bool) → any (r .tests) ≡ b → Dec (n ≡ r .refusal .number) → (First (λ n. applies n rs) n → (ρ : Refusal) × ((verdict rs ≡ Refuse ρ) × (ρ .number ≡ n)))
+        → (ρ : Refusal) × ((cond b (Refuse (r .refusal)) (verdict rs) ≡ Refuse ρ) × (ρ .number ≡ n))
+    go true e (yes q) ih = (r .refusal, (refl, sym q))
+    go true e (no d) ih = absurd (not-first e d)
+    go false e (yes q) ih = absurd (true≢false (sym (f .itself) ∙ ap (λ (m : ℕ). applies m (r ∷ rs)) q ∙ here r rs ∙ e))
+    go false e (no d) ih = ih (behind d)
+
+-- where every row passes no number applies
+passed-none : (rs : List Row) → verdict rs ≡ Pass → (n : ℕ) → applies n rs ≡ false
+unfolding verdict
+passed-none [] h n = refl
+passed-none (r ∷ rs) h n = go (any (r .tests)) refl h (λ e. passed-none rs e n)
+  where
+    go : (b : Bool) → any (r .tests) ≡ b → cond b (Refuse (r .refusal)) (verdict rs) ≡ Pass → (verdict rs ≡ Pass → applies n rs ≡ false) → applies n (r ∷ rs) ≡ false
+    go true e h ih = let z : _≡_ {A = ℕ} 0 1 = cc in absurd (omega arith)
+    go false e h ih = pick (ℕ-discrete n (r .refusal .number))
+      where
+        pick : Dec (n ≡ r .refusal .number) → applies n (r ∷ rs) ≡ false
+        pick (yes q) = ap (λ (m : ℕ). applies m (r ∷ rs)) q ∙ here r rs ∙ e
+        pick (no d) = further r rs n d ∙ ih h
+
+-- and where no number applies every row passes
+none-passed : (rs : List Row) (k : ℕ) → inPlace k rs ≡ true → ((n : ℕ) → applies n rs ≡ false) → verdict rs ≡ Pass
+unfolding verdict
+none-passed [] k o h = refl
+none-passed (r ∷ rs) k o h =
+    rw (sym (here r rs) ∙ h (r .refusal .number)) (none-passed rs (suc (place (r .refusal .number))) (rest r rs k o) (λ n. pick n (ℕ-discrete n (r .refusal .number))))
+  where
+    pick : (n : ℕ) → Dec (n ≡ r .refusal .number) → applies n rs ≡ false
+    pick n (yes q) = let p : place n ≡ place (r .refusal .number) = ap place q in early rs (suc (place (r .refusal .number))) n (rest r rs k o) (omega arith)
+    pick n (no d) = sym (further r rs n d) ∙ h n
+
+-- A DECISION
+
+after-refused : (v : Verdict) (x : List ℕ) (r : Refusal) → after v (Sent x) ≡ Refused r → v ≡ Refuse r
+after-refused Pass x r h = let z : _≡_ {A = ℕ} 0 1 = cc in absurd (omega arith)
+after-refused (Refuse ρ) x r h = cc
+
+after-sent : (v : Verdict) (x y : List ℕ) → after v (Sent x) ≡ Sent y → v ≡ Pass
+after-sent Pass x y h = refl
+after-sent (Refuse ρ) x y h = let z : _≡_ {A = ℕ} 0 1 = cc in absurd (omega arith)
+
+pub goes-by : (d : Decision) → inPlace 0 (d .rows) ≡ true → GoesBy (λ n. applies n (d .rows)) (outcome d)
+goes-by d o = record {
+  refused = λ r h. refused-first (d .rows) 0 r o (after-refused (verdict (d .rows)) (d .packet) r h);
+  given = λ n f. let (ρ, (v, q)) = first-refused (d .rows) 0 n o f in (ρ, (ap (λ (v : Verdict). after v (Sent (d .packet))) v, q));
+  sent = λ x h. passed-none (d .rows) (after-sent (verdict (d .rows)) (d .packet) x h);
+  free = λ h. (d .packet, ap (λ (v : Verdict). after v (Sent (d .packet))) (none-passed (d .rows) 0 o h));
+}
