@@ -15,11 +15,13 @@ pub mod FarE6
 pub mod Messages
 pub mod NearGtp6
 pub mod Sessions
+pub mod Checksums
+pub mod Splices
+pub mod Fields
 pub mod Paths
 pub mod Again
 pub mod Demand3v6
 pub mod DeliveryD
-pub mod Checksums
 pub mod FarE4
 pub mod NearD4
 pub mod Demand3v4
@@ -29,8 +31,6 @@ pub mod FaultSamples
 pub mod Worked
 pub mod Premises
 pub mod AnswerTable
-pub mod Splices
-pub mod Fields
 pub mod PathFields
 pub mod D4Fields
 pub mod SentFields

@@ -29,6 +29,6 @@ pub mod E4
 pub mod D4
 pub mod Calls
 pub mod Trip
-pub mod Demand3
 pub mod Written
 pub mod Sent
+pub mod Demand3
