@@ -9,7 +9,6 @@ use Rattle.rules.specs.Table.{entryAt}
 use Rattle.rules.specs.Entry as Entry
 use Rattle.rules.specs.Policy as Policy
 use Rattle.rules.specs.Ipv6 as Ipv6
-use Rattle.rules.specs.Srh as Srh
 use Rattle.rules.specs.Srh.{srh}
 use Rattle.rules.specs.Args.{argsAt}
 use Rattle.rules.specs.Sound.{entryLimit}
@@ -20,7 +19,7 @@ use Rattle.rules.specs.Carried.{carried6}
 use Rattle.rules.specs.Datagram.{innerRows}
 use Rattle.rules.specs.Gtp6D.{gtp6DPacket}
 use Rattle.rules.specs.D.{lastWithArgs, dPath, dPacket, atD}
-use Rattle.rules.specs.Trip.{Stop, call}
+use Rattle.rules.specs.Trip.{Stop, Trip, call}
 use Rattle.rules.specs.Demand3.{policyOf, MatchingD, DeliversD}
 use Rattle.rules.proofs.Windows.{window-length}
 use Rattle.rules.proofs.Rows.{read}
@@ -62,7 +61,9 @@ d-delivers near ss p i m =
     record {
       packet = q;
       arrives = trip-outcome near ss p (dPacket e y c) sent
-          ∙ arrives (c .trafficClass) upper (Entry.hopLimit e) (Entry.source e) ws tail (c .inner) (Entry.session e) (v .octet) k hs hw (hx, tt) (omega arith) fits ss (m .hopLimit) (m .passes) (m .room);
+          ∙ ap (λ (t : Trip). t .outcome)
+          (arrives (c .trafficClass) upper (Entry.hopLimit e) (Entry.source e) ws tail (c .inner) (Entry.session e) (v .octet) k
+          hs hw (hx, tt) (omega arith) fits ss (m .hopLimit) (m .passes) (m .room));
       destination = d;
       segmentsLeft = ipv6-octet (c .trafficClass) (srv6Payload (ws ++ tail) (c .inner)) routingHeader hop (Entry.source e) sid r hs hx 3;
       args = ap (λ (l : List ℕ). argsAt l (Policy.start y)) d ∙ withArgs-back (Policy.lastSid y) (Policy.start y) (c .args) (window-length y _ 16) (good .policy .start) (v .args);

@@ -5,8 +5,8 @@ use mathlib.Core.List.{List, [], _∷_, _++_}
 use Prim.Native.Nat.{ℕ, _+_, _-_, _*_, _≤_, _<_}
 use native.Mathlib.Omega.{arith}
 use lib.Dec.{eqb}
-use lib.ListN.{length, getD, length-append}
-use Rattle.rules.specs.Octets.{Octets, splice}
+use lib.ListN.{length, length-append}
+use Rattle.rules.specs.Octets.{Octets}
 use Rattle.rules.specs.Assigned.{endMGtp4E, downlink}
 use Rattle.rules.specs.Table.{entryAt, ruleAt}
 use Rattle.rules.specs.Entry as Entry
@@ -21,8 +21,8 @@ use Rattle.rules.specs.Carried.{Carried, carried4}
 use Rattle.rules.specs.Datagram.{innerRows}
 use Rattle.rules.specs.D4.{d4Sid, d4Source, d4Packet, d4Rows}
 use Rattle.rules.specs.E4.{e4Packet, e4TotalLength}
-use Rattle.rules.specs.Trip.{Stop, call, trip, stops}
-use Rattle.rules.specs.Demand3.{AtEntry, AtRule, AtWaypoints, EachHasRoom, Room, Matching4, Again, Delivers4}
+use Rattle.rules.specs.Trip.{Stop, call, trip}
+use Rattle.rules.specs.Demand3.{AtEntry, AtRule, AtWaypoints, EachHasRoom, Room, Matching4, Arrives, Again, Delivers4}
 use Rattle.rules.proofs.Windows.{window-length, octets-window}
 use Rattle.rules.proofs.Rows.{None, read}
 use Rattle.rules.proofs.Reading.{Addresses}
@@ -33,13 +33,14 @@ use Rattle.rules.proofs.NearD4.{Passed, passed-quiet, passed-fits, carr
 use Rattle.rules.proofs.Sessions.{Carries, carries}
 use Rattle.rules.proofs.Paths.{addressesAt-addresses, way-end, arrives}
 use Rattle.rules.proofs.Tables.{SoundRule, found-rule}
-use Rattle.rules.proofs.Trips.{trip-whole, trip-none}
+use Rattle.rules.proofs.Trips.{forwards, trip-whole, trip-none}
+use Rattle.rules.proofs.Fields.{e4-written}
 use Rattle.rules.proofs.Again.{same-entry, same-rule, same-waypoints, same-length}
 
 -- a packet written past waypoints arrives at its SID, with an SRH or without
 record Reaches (ss : List Stop) (o : List ℕ) (class upper : ℕ) (source sid inner : List ℕ) : Type 0 where
   packet : List ℕ
-  sent : trip ss o .outcome ≡ Sent packet
+  sent : trip ss o ≡ forwards ss o packet
   arrived : Arrived packet class upper source sid inner
 
 reaches : (class upper hop session : ℕ) (source : List ℕ) (ws : List (List ℕ)) (sid inner : List ℕ) (ss : List Stop) → class < 256 → Carries session upper
@@ -117,7 +118,7 @@ module _ (near : Stop) (ss : List Stop) (far : Stop) (address : List ℕ) (c : C
 
   -- a packet that carries the values, and that passes at the near gateway, goes all the way
   whole : (p : List ℕ) → Ipv4.destination p ≡ address → carried4 p ≡ c → Passed r p
-      → (trip (stops near ss far) p .outcome ≡ Sent (e4Packet f c)) × (getD (trip (stops near ss far) p .buffers) (length ss + 1) [] ≡ splice (far .buffer) 0 (e4Packet f c))
+      → Arrives near ss far p (d4Packet r c) (e4Packet f c)
   unfolding d4Packet innerRows
   whole p hd hc n =
       let last : None (d4Rows r (c .inner)) = rw hc at (n .last) in
@@ -148,15 +149,15 @@ demand3-ipv4 near ss far p k j m =
     let quiet : cond (eqb (Entry.direction f) downlink) 0 (c .args .reflective) ≡ 0 = rw (m .direction) (passed-quiet r p n) in
     let back = back-values f c v hs os od ttl fits quiet in
     let there = back-destination f c v hs os od ttl fits ∙ carried4-destination p in
-    let (arrives, buffer) = whole near ss far (Ipv4.destination p) c k j r f h v hs fits p refl refl n in
+    let n′ = back-passed f c v hs os od ttl fits r (m .direction) quiet (n .last) in
     record {
-      arrives = arrives;
-      buffer = buffer;
+      arrives = whole near ss far (Ipv4.destination p) c k j r f h v hs fits p refl refl n;
+      written = e4-written f c v hs os od ttl (omega (arith, fits));
       size = e4-length f c v hs;
       values = back;
       again = λ near′ ss′ far′ a.
           let h′ = ready-again near ss far (Ipv4.destination p) c k j r f h near′ ss′ far′ a in (
-            whole near′ ss′ far′ (Ipv4.destination p) c k j r f h′ v hs fits p refl refl n .0,
-            whole near′ ss′ far′ (Ipv4.destination p) c k j r f h′ v hs fits (e4Packet f c) there back (back-passed f c v hs os od ttl fits r (m .direction) quiet (n .last)) .0,
+            whole near′ ss′ far′ (Ipv4.destination p) c k j r f h′ v hs fits p refl refl n,
+            whole near′ ss′ far′ (Ipv4.destination p) c k j r f h′ v hs fits (e4Packet f c) there back n′,
           );
     }

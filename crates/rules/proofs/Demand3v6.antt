@@ -2,11 +2,10 @@
 use mathlib.Core.Path.{_≡_, refl, sym, ap, _∙_, subst}
 use mathlib.Core.Bool.{true, cond}
 use mathlib.Core.List.{List, [], _∷_, _++_, append-assoc}
-use Prim.Native.Nat.{ℕ, _+_, _-_, _≤_, _<_}
+use Prim.Native.Nat.{ℕ, _-_, _≤_, _<_}
 use native.Mathlib.Omega.{arith}
 use lib.Dec.{eqb}
-use lib.ListN.{length, getD}
-use Rattle.rules.specs.Octets.{splice}
+use lib.ListN.{length}
 use Rattle.rules.specs.Assigned.{endMGtp6DDi, endMGtp6E, downlink}
 use Rattle.rules.specs.Table.{entryAt, policyAt}
 use Rattle.rules.specs.Entry as Entry
@@ -22,8 +21,8 @@ use Rattle.rules.specs.Gtp6D.{gtp6DPacket, gtp6DRows, atGtp6D}
 use Rattle.rules.specs.D.{lastWithArgs}
 use Rattle.rules.specs.Di.{diPath, diPacket, atDi}
 use Rattle.rules.specs.E6.{e6Packet}
-use Rattle.rules.specs.Trip.{Stop, call, trip, stops}
-use Rattle.rules.specs.Demand3.{AtEntry, AtWaypoints, Room, policyOf, Matching6, Again, Delivers6}
+use Rattle.rules.specs.Trip.{Stop, call, trip}
+use Rattle.rules.specs.Demand3.{AtEntry, AtWaypoints, Room, policyOf, Matching6, Arrives, Again, Delivers6}
 use Rattle.rules.proofs.Windows.{window-length}
 use Rattle.rules.proofs.Rows.{None, read}
 use Rattle.rules.proofs.Reading.{Addresses}
@@ -35,7 +34,8 @@ use Rattle.rules.proofs.NearGtp6.{Passed, sent-passed, passed-sent, pas
 use Rattle.rules.proofs.Sessions.{Carries, carries}
 use Rattle.rules.proofs.Paths.{addressesAt-addresses, way-end, arrives}
 use Rattle.rules.proofs.Tables.{SoundGtp6D, found-di}
-use Rattle.rules.proofs.Trips.{trip-whole}
+use Rattle.rules.proofs.Trips.{forwards, trip-whole}
+use Rattle.rules.proofs.Fields.{e6-written}
 use Rattle.rules.proofs.Again.{same-entry, same-waypoints, same-length}
 
 -- What the premises say of the stops, the values and the records that are found: near entry e with policy y, far entry f.
@@ -96,11 +96,15 @@ module _ (near : Stop) (ss : List Stop) (far : Stop) (address : List ℕ) (c : C
   start-fits : Policy.start y ≤ 88
   start-fits = subst (λ (y : List ℕ). Policy.start y ≤ 88) (r .policy) (near-sound .policy .start)
 
+  -- the packet that comes to the far gateway, with some hop limit
+  abbrev coming : (hop : ℕ) → List ℕ
+  coming hop =
+      onTheWay (c .trafficClass) (innerProtocol (Entry.session e) (c .inner)) hop (Entry.source e) (diPath y c)
+      (lastWithArgs y (c .args) ∷ c .destination ∷ []) (c .inner)
+
   -- from the near gateway on
-  onward : None (gtp6DRows e (diPath y c) (c .inner))
-      → (hop : ℕ) → hop ≡ Entry.hopLimit e - length ss
-      → (trip ss (diPacket e y c) .outcome ≡ Sent (onTheWay (c .trafficClass) (innerProtocol (Entry.session e) (c .inner)) hop (Entry.source e) (diPath y c) (lastWithArgs y (c .args) ∷ c .destination ∷ []) (c .inner)))
-      × (call far (onTheWay (c .trafficClass) (innerProtocol (Entry.session e) (c .inner)) hop (Entry.source e) (diPath y c) (lastWithArgs y (c .args) ∷ c .destination ∷ []) (c .inner)) ≡ Sent (e6Packet f c))
+  onward : None (gtp6DRows e (diPath y c) (c .inner)) → (hop : ℕ) → hop ≡ Entry.hopLimit e - length ss
+      → (trip ss (diPacket e y c) ≡ forwards ss (diPacket e y c) (coming hop)) × (call far (coming hop) ≡ Sent (e6Packet f c))
   unfolding diPath diPacket gtp6DPacket innerRows
   onward n hop q =
       let x = lastWithArgs y (c .args) in
@@ -114,7 +118,8 @@ module _ (near : Stop) (ss : List Stop) (far : Stop) (address : List ℕ) (c : C
       let hs = window-length e 32 16 in
       let w = way-end (c .trafficClass) upper (Entry.hopLimit e) (Entry.source e) ws tail (c .inner) (Entry.session e) (v .octet) near-carries hs hw ht (omega arith) fits hop in
       let g : ws ++ tail ≡ (ws ++ x ∷ []) ++ c .destination ∷ [] = sym (append-assoc ws (x ∷ []) (c .destination ∷ [])) in (
-        arrives (c .trafficClass) upper (Entry.hopLimit e) (Entry.source e) ws tail (c .inner) (Entry.session e) (v .octet) near-carries hs hw ht (omega arith) fits ss (r .hopLimit) (r .passes) (r .room .atWaypoints)
+        arrives (c .trafficClass) upper (Entry.hopLimit e) (Entry.source e) ws tail (c .inner) (Entry.session e) (v .octet) near-carries
+            hs hw ht (omega arith) fits ss (r .hopLimit) (r .passes) (r .room .atWaypoints)
             ∙ rw q,
         rw g
             (e6-sends f upper hop (Entry.source e) (ws ++ x ∷ []) (Policy.lastSid y) (Policy.start y) c (window-length y _ 16) (r .start) start-fits none v (rw g at w) far j (r .exit) (r .leaves) (r .room .atFar)
@@ -123,7 +128,7 @@ module _ (near : Stop) (ss : List Stop) (far : Stop) (address : List ℕ) (c : C
 
   -- a packet that carries the values, and that passes at the near gateway, goes all the way
   whole : (p : List ℕ) → Ipv6.destination p ≡ address → carried6 p ≡ c → Passed e (diPath y c) p
-      → (trip (stops near ss far) p .outcome ≡ Sent (e6Packet f c)) × (getD (trip (stops near ss far) p .buffers) (length ss + 1) [] ≡ splice (far .buffer) 0 (e6Packet f c))
+      → Arrives near ss far p (diPacket e y c) (e6Packet f c)
   unfolding atDi diPacket
   whole p hd hc n =
       let o = onward (rw hc at (n .last)) (Entry.hopLimit e - length ss) refl in
@@ -151,15 +156,15 @@ demand3-ipv6 near ss far p i j m =
     let quiet : cond (eqb (Entry.direction f) downlink) 0 (c .args .reflective) ≡ 0 = rw (m .direction) (passed-quiet e (diPath y c) (diPacket e y c) p n) in
     let back = back-values f c v none quiet in
     let there = back-destination f c v none ∙ carried6-destination p in
-    let (arrives, buffer) = whole near ss far (Ipv6.destination p) c i j e y f r v none p refl refl n in
+    let n′ = back-passed f c v none e (diPath y c) (m .direction) quiet (n .last) in
     record {
-      arrives = arrives;
-      buffer = buffer;
+      arrives = whole near ss far (Ipv6.destination p) c i j e y f r v none p refl refl n;
+      written = e6-written f c v;
       size = e6-length f c v;
       values = back;
       again = λ near′ ss′ far′ a.
           let r′ = ready-again near ss far (Ipv6.destination p) c i j e y f r near′ ss′ far′ a in (
-            whole near′ ss′ far′ (Ipv6.destination p) c i j e y f r′ v none p refl refl n .0,
-            whole near′ ss′ far′ (Ipv6.destination p) c i j e y f r′ v none (e6Packet f c) there back (back-passed f c v none e (diPath y c) (m .direction) quiet (n .last)) .0,
+            whole near′ ss′ far′ (Ipv6.destination p) c i j e y f r′ v none p refl refl n,
+            whole near′ ss′ far′ (Ipv6.destination p) c i j e y f r′ v none (e6Packet f c) there back n′,
           );
     }

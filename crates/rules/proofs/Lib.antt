@@ -18,11 +18,13 @@ pub mod FarE6
 pub mod Messages
 pub mod NearGtp6
 pub mod Sessions
+pub mod Checksums
+pub mod Splices
+pub mod Fields
 pub mod Paths
 pub mod Again
 pub mod Demand3v6
 pub mod DeliveryD
-pub mod Checksums
 pub mod FarE4
 pub mod NearD4
 pub mod Demand3v4
@@ -34,8 +36,6 @@ pub mod Premises
 pub mod AnswerTable
 pub mod Refusals
 pub mod Smallest
-pub mod Splices
-pub mod Fields
 pub mod PathFields
 pub mod D4Fields
 pub mod SentFields

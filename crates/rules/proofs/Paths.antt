@@ -6,13 +6,13 @@ use native.Mathlib.Omega.{arith}
 use lib.ListN.{length, take, length-append, take-append-drop}
 use Rattle.rules.specs.Table.{addressesAt}
 use Rattle.rules.specs.Srv6.{srv6, srv6Payload}
-use Rattle.rules.specs.Answer.{Sent}
 use Rattle.rules.specs.Trip.{Stop, trip}
 use Rattle.rules.specs.Demand3.{AtWaypoints, EachHasRoom}
 use Rattle.rules.proofs.Windows.{window-length}
 use Rattle.rules.proofs.Reading.{Addresses, addresses-append}
 use Rattle.rules.proofs.Sessions.{Carries}
 use Rattle.rules.proofs.Waypoints.{onTheWay, Way, way-length}
+use Rattle.rules.proofs.Trips.{forwards}
 use Rattle.rules.proofs.Passing.{Ends, passes}
 
 -- the addresses of a record
@@ -54,8 +54,10 @@ module _ (class upper hop : ℕ) (source : List ℕ) (ws tail : List (List ℕ))
   srv6-length = way-length class upper hop source (ws ++ tail) (ws ++ tail) inner way-begin
 
   pub arrives : (ss : List Stop) → length ss < hop → AtWaypoints ss ws → EachHasRoom ss (length (srv6 class upper hop source (ws ++ tail) inner))
-      → trip ss (srv6 class upper hop source (ws ++ tail) inner) .outcome ≡ Sent (onTheWay class upper (hop - length ss) source (ws ++ tail) tail inner)
+      → trip ss (srv6 class upper hop source (ws ++ tail) inner)
+      ≡ forwards ss (srv6 class upper hop source (ws ++ tail) inner) (onTheWay class upper (hop - length ss) source (ws ++ tail) tail inner)
   unfolding Ends
   arrives ss hh a room =
       let held = ws ++ tail in
-      passes class upper hop source held tail inner ss ws way-begin some (take 1 held, sym (take-append-drop 1 held)) hh a (rw srv6-length at room)
+      passes class upper source held inner hop tail ss ws way-begin some
+      (take 1 held, sym (take-append-drop 1 held)) hh a (rw srv6-length at room)

@@ -1,14 +1,14 @@
 -- Laws of trips: one stop more, two lists joined, the empty list, the buffers afterwards.
 use mathlib.Core.Path.{_≡_, refl, ap, _∙_}
 use mathlib.Core.List.{List, [], _∷_, _++_}
-use Prim.Native.Nat.{ℕ, suc, _+_}
-use lib.ListN.{length, take, drop, getD}
-use lib.Seq.{take-append-seam, getD-at}
-use native.Mathlib.Numerals.{add-one}
+use Prim.Native.Nat.{ℕ, _+_}
+use lib.ListN.{length, take, drop}
+use lib.Seq.{take-append-seam}
 use Rattle.rules.specs.Octets.{splice}
 use Rattle.rules.specs.Answer.{Outcome, Sent, Refused, overlay}
 use Rattle.rules.specs.Trip.{Version, v4, v6, Stop, Trip, translate, call, onward, buffersOf, trip, stops}
 use Rattle.rules.specs.Calls.{translate6, translate4}
+use Rattle.rules.specs.Demand3.{forwardedInto, Arrives}
 
 -- the call that a stop makes
 pub call-v6 : (s : Stop) (p : List ℕ) → s .version ≡ v6 → call s p ≡ translate6 p (s .table) (length (s .buffer))
@@ -62,37 +62,26 @@ trip-append (s ∷ xs) ys p = go (λ o. trip-append xs ys o) (call s p)
         join-more (trip xs y .outcome) held (trip xs y .buffers) ys (λ o. trip ys o) (trip (xs ++ ys) y) (ih y)
     go ih (Refused r) = ap (λ (l : List (List ℕ)). record { outcome = Refused r; buffers = overlay (Refused r) (s .buffer) ∷ l }) (buffersOf-append xs ys)
 
-pub trip-none : (p : List ℕ) → trip [] p .outcome ≡ Sent p
+pub trip-none : (p : List ℕ) → trip [] p ≡ record { outcome = Sent p; buffers = [] }
 unfolding trip
 trip-none p = refl
 
--- each stop has a buffer afterwards
-pub trip-buffers : (ss : List Stop) (p : List ℕ) → length (trip ss p .buffers) ≡ length ss
+-- what comes of a trip that begins with packet a, past waypoints that each forward what they get, and ends with packet b
+abbrev pub forwards : List Stop → (a b : List ℕ) → Trip
+forwards ss a b = record { outcome = Sent b; buffers = forwardedInto ss a }
+
+-- a near call, a trip past waypoints and a far call, one after the other
+pub trip-whole : (near : Stop) (ss : List Stop) (far : Stop) (p a b c : List ℕ)
+    → call near p ≡ Sent a → trip ss a ≡ forwards ss a b → call far b ≡ Sent c → Arrives near ss far p a c
 unfolding trip
-trip-buffers [] p = refl
-trip-buffers (s ∷ ss) p = go (λ o. trip-buffers ss o) (call s p)
-  where
-    kept : (ss : List Stop) → length (buffersOf ss) ≡ length ss
-    kept [] = refl
-    kept (s ∷ ss) = ap suc (kept ss)
-
-    go : ((x : List ℕ) → length (trip ss x .buffers) ≡ length ss) → (o : Outcome) → length (onward o s ss (λ o. trip ss o) .buffers) ≡ suc (length ss)
-    go ih (Sent x) = ap suc (ih (take (length x) (overlay (Sent x) (s .buffer))))
-    go ih (Refused r) = ap suc (kept ss)
-
--- a near call, a trip and a far call, one after the other
-pub trip-whole : (near : Stop) (ss : List Stop) (far : Stop) (p a b c : List ℕ) → call near p ≡ Sent a → trip ss a .outcome ≡ Sent b → call far b ≡ Sent c
-    → (trip (stops near ss far) p .outcome ≡ Sent c) × (getD (trip (stops near ss far) p .buffers) (length ss + 1) [] ≡ splice (far .buffer) 0 c)
 trip-whole near ss far p a b c h₁ h₂ h₃ =
-    let bs = trip ss a .buffers in
-    let t₁ = trip-step near (ss ++ far ∷ []) p a h₁ in
-    let t₂ : trip (ss ++ far ∷ []) a ≡ join (Sent b) bs (far ∷ []) (λ o. trip (far ∷ []) o) =
-    trip-append ss (far ∷ []) a ∙ ap (λ (o : Outcome). join o bs (far ∷ []) (λ o. trip (far ∷ []) o)) h₂ in
-    let t₃ = trip-step far [] b c h₃ in (
-      ap (λ (t : Trip). t .outcome) t₁ ∙ ap (λ (t : Trip). t .outcome) t₂ ∙ ap (λ (t : Trip). t .outcome) t₃ ∙ trip-none c,
-      ap (λ (t : Trip). getD (t .buffers) (length ss + 1) []) t₁
-          ∙ rw (add-one (length ss))
-          (ap (λ (t : Trip). getD (t .buffers) (length ss) []) t₂
-          ∙ ap (λ (t : Trip). getD (bs ++ t .buffers) (length ss) []) t₃
-          ∙ getD-at bs (splice (far .buffer) 0 c) (trip [] c .buffers) [] (length ss) (trip-buffers ss a)),
-    )
+    let last : trip (far ∷ []) b ≡ record { outcome = Sent c; buffers = splice (far .buffer) 0 c ∷ [] } = trip-step far [] b c h₃ in
+    let rest : trip (ss ++ far ∷ []) a ≡ record { outcome = Sent c; buffers = forwardedInto ss a ++ splice (far .buffer) 0 c ∷ [] } =
+    trip-append ss (far ∷ []) a
+    ∙ ap (λ (t : Trip). join (t .outcome) (t .buffers) (far ∷ []) (λ o. trip (far ∷ []) o)) h₂
+    ∙ ap (λ (t : Trip). record { outcome = t .outcome; buffers = forwardedInto ss a ++ t .buffers }) last in
+    let t = trip-step near (ss ++ far ∷ []) p a h₁ in
+    record {
+      outcome = ap (λ (t : Trip). t .outcome) t ∙ ap (λ (t : Trip). t .outcome) rest;
+      buffers = ap (λ (t : Trip). t .buffers) t ∙ ap (λ (t : Trip). splice (near .buffer) 0 a ∷ t .buffers) rest;
+    }

@@ -2,8 +2,8 @@
 use mathlib.Core.Path.{_≡_}
 use mathlib.Core.Bool.{true}
 use mathlib.Core.List.{List, [], _∷_, _++_}
-use Prim.Native.Nat.{ℕ, _+_, _-_, _≤_, _<_}
-use lib.ListN.{length, getD, drop}
+use Prim.Native.Nat.{ℕ, _+_, _≤_, _<_}
+use lib.ListN.{length, drop}
 use Rattle.rules.specs.Octets.{Octets, splice}
 use Rattle.rules.specs.Assigned.{end, endMGtp6D, endMGtp6DDi, endMGtp6E, endMGtp4E, gPdu}
 use Rattle.rules.specs.Table.{entryAt, ruleAt, policyAt}
@@ -17,15 +17,17 @@ use Rattle.rules.specs.Gtpu as Gtpu
 use Rattle.rules.specs.Args.{argsAt}
 use Rattle.rules.specs.Sound.{sound}
 use Rattle.rules.specs.Match.{matchEntry, matchRule}
-use Rattle.rules.specs.Answer.{Outcome, Sent}
+use Rattle.rules.specs.Answer.{Sent}
 use Rattle.rules.specs.Header.{header}
 use Rattle.rules.specs.Carried.{Carried, carried6, carried4, datagramIn6, datagramIn4}
+use Rattle.rules.specs.Waypoint.{forwarded}
 use Rattle.rules.specs.D.{dPacket, lastWithArgs}
 use Rattle.rules.specs.Di.{diPacket}
 use Rattle.rules.specs.E6.{e6Packet}
 use Rattle.rules.specs.D4.{d4Packet, d4Sid}
 use Rattle.rules.specs.E4.{e4Packet}
-use Rattle.rules.specs.Trip.{Version, v4, v6, Stop, call, trip, stops}
+use Rattle.rules.specs.Written.{WrittenE6, WrittenE4}
+use Rattle.rules.specs.Trip.{v4, v6, Stop, call, trip, stops}
 use Rattle.rules.specs.declared.Found.the-variants.{At}
 
 -- PREMISES
@@ -106,6 +108,18 @@ pub data Matching (near : Stop) (ss : List Stop) (far : Stop) (packet : List ℕ
 
 -- PROMISES
 
+-- what the buffers of waypoints hold afterwards: each the packet that arrived there, forwarded, over what was there
+abbrev pub forwardedInto : List Stop → (packet : List ℕ) → List (List ℕ)
+forwardedInto [] x = []
+forwardedInto (s ∷ ss) x = splice (s .buffer) 0 (forwarded x) ∷ forwardedInto ss (forwarded x)
+
+-- Packet p makes the whole trip: no call refuses. The near gateway sends `first`, each waypoint forwards what arrives, and the far
+-- gateway sends the result; each buffer holds what was sent from there, over what was there.
+pub record Arrives (near : Stop) (ss : List Stop) (far : Stop) (p first result : List ℕ) : Type 0 where
+  pub outcome : trip (stops near ss far) p .outcome ≡ Sent result
+  pub buffers : trip (stops near ss far) p .buffers
+      ≡ splice (near .buffer) 0 first ∷ forwardedInto ss first ++ splice (far .buffer) 0 result ∷ []
+
 -- the same call and the same table, with another buffer
 pub record Same (s s′ : Stop) : Type 0 where
   pub call : s′ .version ≡ s .version
@@ -124,25 +138,33 @@ pub record Again (near : Stop) (ss : List Stop) (far : Stop) (near′ : Stop) (s
   pub sameFar : Same far far′
   pub room : Room near′ ss′ far′ onTheWay atTheEnd
 
--- What a trip delivers: no call refuses, and what comes out is the result, which lies in the far buffer over what was there; it is the
--- headers and the inner octets; a reader reads from it what it read from the packet that went in; and both second trips, begun with
--- the packet that went in and with the one that came out, end in the same octets.
-pub record Delivers (near : Stop) (ss : List Stop) (far : Stop) (p : List ℕ) (onTheWay : ℕ) (result : List ℕ) (headers : ℕ) (read : List ℕ → Carried) : Type 0 where
-  pub arrives : trip (stops near ss far) p .outcome ≡ Sent result
-  pub buffer : getD (trip (stops near ss far) p .buffers) (length ss + 1) [] ≡ splice (far .buffer) 0 result
+-- What a trip delivers: it arrives; every field of the result is written as document 01 fixes it, said without a writer; the result
+-- is the headers and the inner octets; a reader reads from it what it read from the packet that went in; and both second trips, begun
+-- with the packet that went in and with the one that came out, arrive with the same packets.
+pub record Delivers (near : Stop) (ss : List Stop) (far : Stop) (p first result : List ℕ)
+    (Written : List ℕ → Type 0) (headers : ℕ) (read : List ℕ → Carried) : Type 0 where
+  pub arrives : Arrives near ss far p first result
+  pub written : Written result
   pub size : length result ≡ headers + length (read p .inner)
   pub values : read result ≡ read p
-  pub again : (near′ : Stop) (ss′ : List Stop) (far′ : Stop) → Again near ss far near′ ss′ far′ onTheWay (length result)
-      → (trip (stops near′ ss′ far′) p .outcome ≡ Sent result) × (trip (stops near′ ss′ far′) result .outcome ≡ Sent result)
+  pub again : (near′ : Stop) (ss′ : List Stop) (far′ : Stop) → Again near ss far near′ ss′ far′ (length first) (length result)
+      → Arrives near′ ss′ far′ p first result × Arrives near′ ss′ far′ result first result
 
--- over IPv6 what E6 writes from the values that went in and the far entry; over IPv4 what E4 writes
+-- over IPv6 what Di sends first, and in the end what E6 writes from the values that went in and the far entry
 abbrev pub Delivers6 : (near : Stop) (ss : List Stop) (far : Stop) (p : List ℕ) (i j : ℕ) → Type 0
 Delivers6 near ss far p i j =
-    Delivers near ss far p (length (diPacket (entryAt (near .table) i) (policyOf near i) (carried6 p))) (e6Packet (entryAt (far .table) j) (carried6 p)) 64 carried6
+    let c = carried6 p in
+    let e = entryAt (near .table) i in
+    let f = entryAt (far .table) j in
+    Delivers near ss far p (diPacket e (policyOf near i) c) (e6Packet f c) (WrittenE6 f c) 64 carried6
 
+-- over IPv4 what D4 sends first, and in the end what E4 writes
 abbrev pub Delivers4 : (near : Stop) (ss : List Stop) (far : Stop) (p : List ℕ) (k j : ℕ) → Type 0
 Delivers4 near ss far p k j =
-    Delivers near ss far p (length (d4Packet (ruleAt (near .table) k) (carried4 p))) (e4Packet (entryAt (far .table) j) (carried4 p)) 44 carried4
+    let c = carried4 p in
+    let r = ruleAt (near .table) k in
+    let f = entryAt (far .table) j in
+    Delivers near ss far p (d4Packet r c) (e4Packet f c) (WrittenE4 f c) 44 carried4
 
 abbrev pub Promise : {near : Stop} {ss : List Stop} {far : Stop} {p : List ℕ} → Matching near ss far p → Type 0
 Promise {near} {ss} {far} {p} (over6 i j m) = Delivers6 near ss far p i j

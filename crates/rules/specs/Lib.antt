@@ -30,8 +30,8 @@ pub mod E4
 pub mod D4
 pub mod Calls
 pub mod Trip
-pub mod Demand3
 pub mod Written
 pub mod Sent
 pub mod Refused
 pub mod Given
+pub mod Demand3
