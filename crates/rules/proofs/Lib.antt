@@ -1,4 +1,5 @@
 pub mod Windows
+pub mod Bits
 pub mod Conditions
 pub mod Prefixes
 pub mod Longest
