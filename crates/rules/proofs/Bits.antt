@@ -1,13 +1,12 @@
 -- Octets and their numbers: bits past a prefix's length one by one, and octets of which the numbers are the same.
-use mathlib.Core.Path.{_≡_, refl, sym, ap, _∙_}
+use mathlib.Core.Path.{_≡_, sym, ap, _∙_}
 use mathlib.Core.Bool.{true}
 use mathlib.Core.List.{List}
-use Prim.Native.Nat.{ℕ, zero, suc, _+_, _-_, _*_, _/_, _%_, _^_, _≤_, _<_}
+use Prim.Native.Nat.{ℕ, zero, suc, _+_, _-_, _*_, _/_, _%_, _^_, _<_}
 use native.Mathlib.Nat.{zero-add, not-suc-le-zero, zero-div, zero-mod}
 use native.Mathlib.Omega.{arith}
 use native.Mathlib.Decide.{decLt, ℕ-discrete}
 use borrow.Author.Tests.{eqb-true, eq-eqb}
-use lib.ListN.{length}
 use lib.Seq.{ext-getD}
 use lib.Pow.{high, shr-shr, field, mod-mod-pow, mod-pow-add}
 use Rattle.rules.specs.Octets.{octet, Octets, window, number}
@@ -52,7 +51,7 @@ number-bit s o zero i l = absurd (omega arith)
 number-bit s o (suc w) i l = pick (decLt i (8 * w)) (λ k. number-bit s o w i k)
   where
     pick : Dec (i < 8 * w) → (i < 8 * w → number s 0 w / 2 ^ (8 * w - 1 - i) % 2 ≡ bit s i)
-      → number s 0 (suc w) / 2 ^ (8 * suc w - 1 - i) % 2 ≡ bit s i
+        → number s 0 (suc w) / 2 ^ (8 * suc w - 1 - i) % 2 ≡ bit s i
     pick (yes k) front =
         let e : 8 * suc w - 1 - i ≡ 8 + (8 * w - 1 - i) = omega arith in
         rw (e, ← shr-shr (number s 0 w * 256 + octet s (0 + w)) 8 (8 * w - 1 - i), high (number s 0 w) 8 (o (0 + w))) (front k)
@@ -87,12 +86,14 @@ octets-one s r os or (suc n) h k l = pick (ℕ-discrete k n) (λ e l. octets-one
   where
     sums : number s 0 n * 256 + octet s n ≡ number r 0 n * 256 + octet r n
     sums = rw (zero-add n) at h
+
     pick : Dec (k ≡ n) → (number s 0 n ≡ number r 0 n → k < n → octet s k ≡ octet r k) → octet s k ≡ octet r k
     pick (yes e) front = rw e (omega (arith, sums, os n, or n))
     pick (no d) front = front (omega (arith, sums, os n, or n)) (omega arith)
 
 -- windows of one number are the same octets
-pub windows-one : (s r : List ℕ) (i j n : ℕ) → Octets s → Octets r → number (window s i n) 0 n ≡ number (window r j n) 0 n → window s i n ≡ window r j n
+pub windows-one : (s r : List ℕ) (i j n : ℕ) → Octets s → Octets r → number (window s i n) 0 n ≡ number (window r j n) 0 n
+    → window s i n ≡ window r j n
 windows-one s r i j n os or h =
     ext-getD 0 _ _ (window-length s i n ∙ sym (window-length r j n))
-      (λ k l. octets-one (window s i n) (window r j n) (octets-window s i n os) (octets-window r j n or) n h k (rw window-length at l))
+    (λ k l. octets-one (window s i n) (window r j n) (octets-window s i n os) (octets-window r j n or) n h k (rw window-length at l))

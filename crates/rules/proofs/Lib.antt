@@ -5,6 +5,7 @@ pub mod Prefixes
 pub mod Longest
 pub mod Tables
 pub mod Faults
+pub mod SoundTables
 pub mod Rows
 pub mod Reading
 pub mod Waypoints

@@ -105,6 +105,6 @@ pub record SoundTable (t : List ℕ) : Type 0 where
   pub policy : (j : ℕ) → j < policies t → RightPolicy (policyAt t j)
   -- no prefix with its length occurs twice among entries or among rules
   pub entriesApart : (i j : ℕ) → i < j → j < entries t
-    → Entry.prefixLength (entryAt t i) ≡ Entry.prefixLength (entryAt t j) → Entry.prefix (entryAt t i) ≢ Entry.prefix (entryAt t j)
+      → Entry.prefixLength (entryAt t i) ≡ Entry.prefixLength (entryAt t j) → Entry.prefix (entryAt t i) ≢ Entry.prefix (entryAt t j)
   pub rulesApart : (i j : ℕ) → i < j → j < rules t
-    → Rule.prefixLength (ruleAt t i) ≡ Rule.prefixLength (ruleAt t j) → Rule.prefix (ruleAt t i) ≢ Rule.prefix (ruleAt t j)
+      → Rule.prefixLength (ruleAt t i) ≡ Rule.prefixLength (ruleAt t j) → Rule.prefix (ruleAt t i) ≢ Rule.prefix (ruleAt t j)
