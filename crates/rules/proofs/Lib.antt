@@ -3,9 +3,9 @@ pub mod Bits
 pub mod Conditions
 pub mod Prefixes
 pub mod Longest
-pub mod Tables
 pub mod Faults
 pub mod SoundTables
+pub mod Tables
 pub mod Rows
 pub mod Reading
 pub mod Waypoints

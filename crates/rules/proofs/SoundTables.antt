@@ -3,10 +3,10 @@ use mathlib.Core.Path.{_≡_, refl, sym, ap, _∙_}
 use mathlib.Core.Logic.{_≢_}
 use mathlib.Core.Bool.{Bool, true, false, _&&_, false≢true}
 use mathlib.Core.List.{List}
-use Prim.Native.Nat.{ℕ, _*_, _/_, _%_}
+use Prim.Native.Nat.{ℕ, _*_, _/_, _%_, _≤_}
 use native.Mathlib.Omega.{arith}
 use lib.Dec.{eqb, leb, ltb}
-use borrow.Author.Tests.{eqb-true, eqb-false, eq-eqb, ne-eqb, not-true}
+use borrow.Author.Tests.{eqb-true, eqb-false, eq-eqb, ne-eqb, not-true, leb-true}
 use Rattle.rules.specs.Exactly.{Exactly}
 use Rattle.rules.specs.Octets.{Octets, number}
 use Rattle.rules.specs.Assigned as Assigned
@@ -15,12 +15,12 @@ use Rattle.rules.specs.Table.{entries, rules, policies, entryAt, ruleAt,
 use Rattle.rules.specs.Entry as Entry
 use Rattle.rules.specs.Rule as Rule
 use Rattle.rules.specs.Policy as Policy
-use Rattle.rules.specs.Sound.{directionKnown, sessionKnown, startWithin, behaviourKnown, usesSession, usesPolicy, usesStart, usesPlaces, headerConditions, entryConditions, ruleConditions, policyConditions, headerSound, entrySound, ruleSound, policySound, sameEntryPrefix, sameRulePrefix, sound, entryLimit}
+use Rattle.rules.specs.Sound.{directionKnown, sessionKnown, startWithin, sidsWithin, reservedClear, behaviourKnown, usesSession, usesPolicy, usesStart, usesPlaces, headerConditions, entryConditions, ruleConditions, policyConditions, headerSound, entrySound, ruleSound, policySound, sameEntryPrefix, sameRulePrefix, sound, entryLimit}
 use Rattle.rules.specs.Fault.{fault}
 use Rattle.rules.specs.SoundTable.{Kind, waypoint, d, di, e6, e4, Direction, downlink, uplink, SessionType, ipv4, ipv6, ipv4v6, ethernet, ArgsStart, RightEntry, RightRule, RightPolicy, SoundTable}
 use Rattle.rules.proofs.Windows.{octets-window}
 use Rattle.rules.proofs.Bits.{clear-past, past-clear, windows-one}
-use Rattle.rules.proofs.Conditions.{and-left, and-right, and-both, _also_, every-holds, holds-every, holding, meeting, or-cases, where-used, used-where, SoundParts, sound-parts, parts-sound}
+use Rattle.rules.proofs.Conditions.{and-left, and-right, and-both, conjunct, Holds, _also_, every-holds, holds-every, holding, meeting, or-cases, where-used, used-where, SoundParts, sound-parts, parts-sound}
 use Rattle.rules.proofs.Faults.{sound-faultless, faultless-sound}
 
 -- VALUES OF FIELDS
@@ -67,7 +67,7 @@ session-known x = (known, back)
     back (ipv4v6 e) = rw e
     back (ethernet e) = rw e
 
-start-known : (x : ℕ) → Exactly (startWithin x) (ArgsStart x)
+pub start-known : (x : ℕ) → Exactly (startWithin x) (ArgsStart x)
 start-known x = (known, back)
   where
     known : startWithin x ≡ true → ArgsStart x
@@ -133,8 +133,8 @@ module _ (count : ℕ) (e : List ℕ) (o : Octets e) where
           or-cases (eqb (Entry.behaviour e) endMGtp6D) _ u (λ k. omega (meeting, r .policyOfD (omega holding)))
           (λ k. omega (meeting, r .policyOfDi (omega holding)))
 
-  pub sound-entry : Exactly (entrySound count e) (RightEntry count e)
-  sound-entry = (entry-said, said-entry)
+  pub right-entry : Exactly (entrySound count e) (RightEntry count e)
+  right-entry = (entry-said, said-entry)
 
 -- A RULE
 
@@ -175,31 +175,39 @@ module _ (r : List ℕ) (o : Octets r) where
       also (omega meeting)
       also tt)
 
-  pub sound-rule : Exactly (ruleSound r) (RightRule r)
-  sound-rule = (rule-said, said-rule)
+  pub right-rule : Exactly (ruleSound r) (RightRule r)
+  right-rule = (rule-said, said-rule)
 
 -- A POLICY
+
+within-least : (least most n : ℕ) → leb least n && leb n most ≡ true → least ≤ n
+within-least least most n h = leb-true _ _ (and-left (leb least n) _ h)
+
+within-most : (least most n : ℕ) → leb least n && leb n most ≡ true → n ≤ most
+within-most least most n h = leb-true _ _ (and-right (leb least n) _ h)
 
 module _ (y : List ℕ) where
   policy-said : policySound y ≡ true → RightPolicy y
   unfolding policySound
   policy-said h =
-      let (sids, (start, (reserved, _))) = every-holds (policyConditions y) h in
+      let conditions : Holds (policyConditions y) = every-holds (policyConditions y) h in
       record {
-        leastSids = omega (holding, and-left (leb 1 (Policy.sidCount y)) _ sids);
-        mostSids = omega (holding, and-right (leb 1 (Policy.sidCount y)) _ sids);
-        start = start-known _ .0 start;
+        leastSids = omega (arith, within-least);
+        mostSids = omega (arith, within-most);
+        start = start-known _ .0 (search conjunct);
         reserved = omega holding;
       }
 
   said-policy : RightPolicy y → policySound y ≡ true
   unfolding policySound
   said-policy s =
-      holds-every (policyConditions y)
-      (and-both (leb 1 (Policy.sidCount y)) _ (omega meeting) (omega meeting) also start-known _ .1 (s .start) also (omega meeting) also tt)
+      let sids : sidsWithin y ≡ true = and-both (leb 1 (Policy.sidCount y)) _ (omega meeting) (omega meeting) in
+      let start : startWithin (Policy.start y) ≡ true = start-known _ .1 (s .start) in
+      let reserved : reservedClear (Policy.reserved y) ≡ true = omega meeting in
+      rw (sids, start, reserved)
 
-  pub sound-policy : Exactly (policySound y) (RightPolicy y)
-  sound-policy = (policy-said, said-policy)
+  pub right-policy : Exactly (policySound y) (RightPolicy y)
+  right-policy = (policy-said, said-policy)
 
 -- THE TABLE
 
@@ -246,9 +254,9 @@ module _ (t : List ℕ) (o : Octets t) where
         ruleCount = omega holding;
         policyCount = omega holding;
         size = omega holding;
-        entry = λ i l. sound-entry (policies t) (entryAt t i) (octets-entry i) .0 (s .entry i l);
-        rule = λ k l. sound-rule (ruleAt t k) (octets-rule k) .0 (s .rule k l);
-        policy = λ j l. sound-policy (policyAt t j) .0 (s .policy j l);
+        entry = λ i l. right-entry (policies t) (entryAt t i) (octets-entry i) .0 (s .entry i l);
+        rule = λ k l. right-rule (ruleAt t k) (octets-rule k) .0 (s .rule k l);
+        policy = λ j l. right-policy (policyAt t j) .0 (s .policy j l);
         entriesApart = λ i j l k. apart _ _ (Entry.prefix (entryAt t i)) (Entry.prefix (entryAt t j)) 16 (s .entry-apart i j l k);
         rulesApart = λ i j l k. apart _ _ (Rule.prefix (ruleAt t i)) (Rule.prefix (ruleAt t j)) 4 (s .rule-apart i j l k);
       }
@@ -259,11 +267,11 @@ module _ (t : List ℕ) (o : Octets t) where
       parts-sound entryLimit t
       record {
         header = holds-every (headerConditions entryLimit t) (omega meeting);
-        entry = λ i l. sound-entry (policies t) (entryAt t i) (octets-entry i) .1 (s .entry i l);
+        entry = λ i l. right-entry (policies t) (entryAt t i) (octets-entry i) .1 (s .entry i l);
         entry-apart = λ i j l k. unlike _ _ _ _ 16 (entries-one i j) (s .entriesApart i j l k);
-        rule = λ k l. sound-rule (ruleAt t k) (octets-rule k) .1 (s .rule k l);
+        rule = λ k l. right-rule (ruleAt t k) (octets-rule k) .1 (s .rule k l);
         rule-apart = λ i j l k. unlike _ _ _ _ 4 (rules-one i j) (s .rulesApart i j l k);
-        policy = λ j l. sound-policy (policyAt t j) .1 (s .policy j l);
+        policy = λ j l. right-policy (policyAt t j) .1 (s .policy j l);
       }
 
 pub sound-table : (t : List ℕ) → Octets t → Exactly (sound t) (SoundTable t)
