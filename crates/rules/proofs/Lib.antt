@@ -1,9 +1,11 @@
 pub mod Windows
+pub mod Bits
 pub mod Conditions
 pub mod Prefixes
 pub mod Longest
-pub mod Tables
 pub mod Faults
+pub mod SoundTables
+pub mod Tables
 pub mod Rows
 pub mod Exact
 pub mod Reading

@@ -3,16 +3,19 @@ use mathlib.Core.Path.{_≡_}
 use mathlib.Core.Bool.{true}
 use mathlib.Core.List.{List}
 use Prim.Native.Nat.{ℕ, _*_, _%_, _≤_, _<_}
-use borrow.Author.Tests.{leb-true, ltb-true, eqb-true}
+use native.Mathlib.Omega.{arith}
+use borrow.Author.Tests.{leb-true, ltb-true}
 use Rattle.rules.specs.Assigned.{endMGtp6D, endMGtp6DDi, endMGtp6E, endMGtp4E}
 use Rattle.rules.specs.Table.{entries, policies, entryAt, ruleAt, policyAt}
 use Rattle.rules.specs.Entry as Entry
 use Rattle.rules.specs.Rule as Rule
 use Rattle.rules.specs.Policy as Policy
 use Rattle.rules.specs.Match.{matchEntry, matchRule}
-use Rattle.rules.specs.Sound.{directionKnown, sessionKnown, startWithin, usesSession, usesPolicy, usesStart, usesPlaces, entrySound, ruleSound, policySound, soundWithin}
+use Rattle.rules.specs.Sound.{directionKnown, sessionKnown, usesSession, usesPolicy, usesStart, usesPlaces, entryConditions, ruleConditions, entrySound, ruleSound, policySound, soundWithin}
+use Rattle.rules.specs.SoundTable.{ArgsStart, RightPolicy}
 use Rattle.rules.specs.declared.Found.the-variants.{At}
-use Rattle.rules.proofs.Conditions.{conjunct, where-used, sound-parts}
+use Rattle.rules.proofs.Conditions.{conjunct, Holds, every-holds, holding, where-used, sound-parts}
+use Rattle.rules.proofs.SoundTables.{start-known, right-policy}
 use Rattle.rules.proofs.Longest.{matched-entry, matched-rule}
 
 -- AN ENTRY, A RULE, A POLICY THAT IS SOUND
@@ -61,9 +64,12 @@ pub record SoundRule (r : List ℕ) : Type 0 where
 -- FROM THEIR CONDITIONS
 
 module _ (policies : ℕ) (e : List ℕ) (h : entrySound policies e ≡ true) where
-  pub sound-entry : SoundEntry e
+  conditions : Holds (entryConditions policies e)
   unfolding entrySound
-  sound-entry = record { bits = leb-true _ _ (search conjunct depth 20); hopLimit = leb-true _ _ (search conjunct depth 20) }
+  conditions = every-holds (entryConditions policies e) h
+
+  pub sound-entry : SoundEntry e
+  sound-entry = record { bits = omega (holding, conditions); hopLimit = omega (holding, conditions) }
 
   sound-direction : usesSession e ≡ true → directionKnown (Entry.direction e) ≡ true
   unfolding entrySound
@@ -80,47 +86,43 @@ module _ (policies : ℕ) (e : List ℕ) (h : entrySound policies e ≡ true) wh
   pub sound-e6 : Entry.behaviour e ≡ endMGtp6E → SoundE6 e
   unfolding entrySound
   sound-e6 b =
-      let s : startWithin (Entry.start e) ≡ true = where-used (usesStart e) _ (search conjunct depth 20) (rw b) in
+      let args : ArgsStart (Entry.start e) = start-known _ .0 (where-used (usesStart e) _ (search conjunct depth 20) (rw b)) in
       record {
         direction = sound-direction (rw b);
         session = sound-session (rw b);
-        start = leb-true _ _ (search (conjunct, s));
-        whole = eqb-true _ _ (search (conjunct, s));
+        start = omega arith;
+        whole = omega arith;
         before = leb-true _ _ (where-used (usesStart e) _ (search conjunct depth 20) (rw b));
       }
 
   pub sound-e4 : Entry.behaviour e ≡ endMGtp4E → SoundE4 e
-  unfolding entrySound
   sound-e4 b =
+      let (_, (_, (_, (_, (_, (_, (_, (_, (_, (p, (q, (address, _)))))))))))) = conditions in
       record {
         direction = sound-direction (rw b);
         session = sound-session (rw b);
-        p = leb-true _ _ (where-used (usesPlaces e) _ (search conjunct depth 20) (rw b));
-        q = leb-true _ _ (where-used (usesPlaces e) _ (search conjunct depth 20) (rw b));
-        before = leb-true _ _ (where-used (usesPlaces e) _ (search conjunct depth 20) (rw b));
+        p = omega (holding, where-used (usesPlaces e) _ p (rw b));
+        q = omega (holding, where-used (usesPlaces e) _ q (rw b));
+        before = omega (holding, where-used (usesPlaces e) _ address (rw b));
       }
 
 pub sound-policy : (y : List ℕ) → policySound y ≡ true → SoundPolicy y
-unfolding policySound
 sound-policy y h =
-    record {
-      least = leb-true _ _ (search conjunct);
-      most = leb-true _ _ (search conjunct);
-      start = leb-true _ _ (search conjunct);
-      whole = eqb-true _ _ (search conjunct);
-    }
+    let r : RightPolicy y = right-policy y .0 h in
+    record { least = omega arith; most = omega arith; start = omega arith; whole = omega arith }
 
 pub sound-rule : (r : List ℕ) → ruleSound r ≡ true → SoundRule r
 unfolding ruleSound
 sound-rule r h =
+    let conditions : Holds (ruleConditions r) = every-holds (ruleConditions r) h in
     record {
-      bits = leb-true _ _ (search conjunct depth 20);
-      hopLimit = leb-true _ _ (search conjunct depth 20);
+      bits = omega holding;
+      hopLimit = omega holding;
       direction = search conjunct depth 20;
       session = search conjunct depth 20;
-      p = leb-true _ _ (search conjunct depth 20);
-      q = leb-true _ _ (search conjunct depth 20);
-      waypoints = leb-true _ _ (search conjunct depth 20);
+      p = omega holding;
+      q = omega holding;
+      waypoints = omega holding;
     }
 
 -- THE RECORD THAT IS FOUND

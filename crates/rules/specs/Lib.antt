@@ -10,6 +10,7 @@ pub mod Policy
 pub mod Match
 pub mod Sound
 pub mod Fault
+pub mod SoundTable
 pub mod Ipv6
 pub mod Srh
 pub mod Checksum
