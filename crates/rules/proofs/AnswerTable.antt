@@ -135,7 +135,7 @@ module _ (p t : List ℕ) (room : ℕ) where
   sixteen : Proper (withIcmp (upperAt p)) (icmp 16 0 0 0)
   sixteen = back 16 (omega arith) (omega arith)
 
-  abbrev Entered : Decision → Type 0
+  abbrev pub Entered : Decision → Type 0
   Entered d = Tabled (withIcmp (upperAt p)) 4 (inRoom room d .rows)
 
   waypoint-tabled : Entered (decideWaypoint p)
@@ -157,7 +157,7 @@ module _ (p t : List ℕ) (room : ℕ) where
   unfolding rowsE4 e4Rows header place
   e4-tabled e = record { order = refl; each = (five, (seven, (eight, (fifteen, (sixteen, tt))))) }
 
-  entry-tabled : (e : List ℕ) → Entered (decideEntry t e p)
+  pub entry-tabled : (e : List ℕ) → Entered (decideEntry t e p)
   entry-tabled e =
       let y = policyAt t (Entry.policy e) in
       let c = carried6 p in

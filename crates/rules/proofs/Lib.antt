@@ -42,3 +42,4 @@ pub mod PathFields
 pub mod D4Fields
 pub mod SentFields
 pub mod Given
+pub mod GivenWhen

@@ -372,7 +372,8 @@ module _ (u : List ℕ) where
       back (BadGtpu.protocolType h) = any-at (badGtpu (datagram u)) 1 (ne-differs (octet u 8 / 16) 3 (λ e. h (omega (arith, e))))
       back (BadGtpu.lengthField h) = any-at (badGtpu (datagram u)) 2 (ne-differs _ _ h)
 
-  pub row-11 : Exactly (any (differs (Gtpu.messageType u) 255 ∷ [])) (Gtpu.messageType u ≢ 255)
+  pub row-11 : Exactly (any (differs (datagram u .messageType) 255 ∷ [])) (Gtpu.messageType u ≢ 255)
+  unfolding datagram
   row-11 = only (differs (Gtpu.messageType u) 255) (Gtpu.messageType u ≢ 255) (differs-true _ _) (ne-differs _ _)
 
   -- an extension is there

@@ -37,7 +37,7 @@ apart′ : (m n : ℕ) → place m < place n → m ≡ n → ⊥
 apart′ m n l e = let q : place m ≡ place n = ap place e in omega arith
 
 -- a number whose place is before all of a list has no row there
-early : (rs : List Row) (k n : ℕ) → inPlace k rs ≡ true → place n < k → applies n rs ≡ false
+pub early : (rs : List Row) (k n : ℕ) → inPlace k rs ≡ true → place n < k → applies n rs ≡ false
 early [] k n o l = refl
 early (r ∷ rs) k n o l =
     let g = at-least r rs k o in

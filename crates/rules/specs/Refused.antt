@@ -13,6 +13,7 @@ use Rattle.rules.specs.Table.{entries, rules, entryAt, ruleAt, policyAt}
 use Rattle.rules.specs.Entry as Entry
 use Rattle.rules.specs.Rule as Rule
 use Rattle.rules.specs.Policy as Policy
+use Rattle.rules.specs.SoundTable.{SoundTable}
 use Rattle.rules.specs.Match.{matchEntry, matchRule}
 use Rattle.rules.specs.Ipv6 as Ipv6
 use Rattle.rules.specs.Srh as Srh
@@ -234,3 +235,19 @@ pub record GivenAtEntry (t e p : List ℕ) (room : ℕ) (applies : ℕ → Bool)
   pub di : Entry.behaviour e ≡ 70 → GivenGtp6D e p (Policy.sidCount (policyAt t (Entry.policy e)) + 1) room applies
   pub e6 : Entry.behaviour e ≡ 71 → GivenE6 e p room applies
   pub e4 : Entry.behaviour e ≡ 72 → GivenE4 e p room applies
+
+-- THE CALLS: rows 1 to 4, then those of the entry or rule that is the longest match, in a sound table
+
+pub record Given6 (p t : List ℕ) (room : ℕ) (applies : ℕ → Bool) : Type 0 where
+  pub row1 : Exactly (applies 1) (SoundTable t → ⊥)
+  pub row2 : Exactly (applies 2) (Malformed6 p)
+  pub never : Never applies (3 ∷ [])
+  pub row4 : Exactly (applies 4) (NoEntry p t)
+  pub matched : SoundTable t → (i : ℕ) → matchEntry t (Ipv6.destination p) ≡ At i → GivenAtEntry t (entryAt t i) p room applies
+
+pub record Given4 (p t : List ℕ) (room : ℕ) (applies : ℕ → Bool) : Type 0 where
+  pub row1 : Exactly (applies 1) (SoundTable t → ⊥)
+  pub row2 : Exactly (applies 2) (Malformed4 p)
+  pub row3 : Exactly (applies 3) (BadIpv4 p)
+  pub row4 : Exactly (applies 4) (NoRule p t)
+  pub matched : SoundTable t → (k : ℕ) → matchRule t (Ipv4.destination p) ≡ At k → GivenD4 (ruleAt t k) p room applies
