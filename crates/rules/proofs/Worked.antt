@@ -1,12 +1,12 @@
 -- The starred worked packets of document 01: rows of one list, under one claim about the definitions.
 use mathlib.Core.Bool.{Bool, true, false, _&&_}
-use mathlib.Core.List.{List, [], _∷_}
+use mathlib.Core.List.{List, [], _∷_, _++_}
 use Prim.Native.Nat.{ℕ, _-_}
 use lib.Dec.{T, eqb}
 use lib.ListN.{length, take, replicate}
 use Rattle.rules.specs.Octets.{window, number, splice}
 use Rattle.rules.specs.Prefix.{firstBits, under, clear}
-use Rattle.rules.specs.Assigned.{endMGtp6D, endMGtp6DDi, ipv6Protocol, routingHeader}
+use Rattle.rules.specs.Assigned.{endMGtp6D, endMGtp6DDi, ipv6Protocol, routingHeader, downlink, uplink}
 use Rattle.rules.specs.Table.{entryAt, ruleAt, policyAt, addressesAt}
 use Rattle.rules.specs.Match.{longest, matchEntry, matchRule}
 use Rattle.rules.specs.Sound.{all, headerSound, entrySound, ruleSound, policySound, sameEntryPrefix, sameRulePrefix, distinct, soundWithin}
@@ -29,6 +29,8 @@ use Rattle.rules.specs.E6.{e6Carried, e6Packet, e6Rows, rowsE6}
 use Rattle.rules.specs.D4.{d4Sid, d4Source}
 use Rattle.rules.specs.Calls.{decideEntry, decideFoundEntry, frontRows6, rows6, translate6}
 use Rattle.rules.specs.Trip.{Stop, v6, trip}
+use Rattle.rules.specs.declared.Verdict.{Verdict}
+use Rattle.rules.specs.declared.Verdict.the-variants.{Pass, Refuse}
 use Rattle.rules.proofs.Samples as Samples
 use Rattle.rules.proofs.Samples.{sidOf, gateway6, argsOf, table, values4, packet6}
 
@@ -58,6 +60,11 @@ answer (Refused r) = r .number ∷ r .icmpType ∷ r .icmpCode ∷ r .pointer �
 abbrev pub sent : ℕ → List ℕ
 sent n = 0 ∷ 0 ∷ 0 ∷ 0 ∷ n ∷ []
 
+-- nothing where rows pass, else the number
+abbrev pub told : Verdict → List ℕ
+told Pass = []
+told (Refuse r) = r .number ∷ []
+
 abbrev pub octetsOf : Outcome → List ℕ
 octetsOf (Sent x) = x
 octetsOf (Refused r) = []
@@ -65,9 +72,21 @@ octetsOf (Refused r) = []
 abbrev pub call : (packet table : List ℕ) (room : ℕ) → List ℕ
 call p t room = answer (translate6 p t room)
 
--- inner 100, one-unit container
+-- inner 100, one-unit container: IPv6, its source and destination, UDP, GTP-U of flow 9 with the reflective bit, and the inner octets
 abbrev pub in164 : List ℕ
-in164 = packet6 (replicate 100 7)
+in164 =
+    0x62 ∷ 0xe0 ∷ 0x00 ∷ 0x00 ∷ 0x00 ∷ 0x7c ∷ 0x11 ∷ 0x40
+    ∷ 0x20 ∷ 0x01 ∷ 0x0d ∷ 0xb8 ∷ 0x00 ∷ 0x0b ∷ 0x00 ∷ 0x63 ∷ 0x00 ∷ 0x00 ∷ 0x00 ∷ 0x00 ∷ 0x00 ∷ 0x00 ∷ 0x00 ∷ 0x00
+    ∷ 0x20 ∷ 0x01 ∷ 0x0d ∷ 0xb8 ∷ 0x00 ∷ 0x0a ∷ 0x00 ∷ 0x00 ∷ 0x00 ∷ 0x00 ∷ 0x00 ∷ 0x00 ∷ 0x00 ∷ 0x00 ∷ 0x00 ∷ 0x01
+    ∷ 0x08 ∷ 0x68 ∷ 0x08 ∷ 0x68 ∷ 0x00 ∷ 0x7c ∷ 0x00 ∷ 0x00
+    ∷ 0x34 ∷ 0xff ∷ 0x00 ∷ 0x6c ∷ 0x01 ∷ 0x02 ∷ 0x03 ∷ 0x04 ∷ 0x00 ∷ 0x00 ∷ 0x00 ∷ 0x85 ∷ 0x01 ∷ 0x00 ∷ 0x49 ∷ 0x00
+    ∷ 0x00 ∷ 0x01 ∷ 0x02 ∷ 0x03 ∷ 0x04 ∷ 0x05 ∷ 0x06 ∷ 0x07 ∷ 0x08 ∷ 0x09 ∷ 0x0a ∷ 0x0b ∷ 0x0c ∷ 0x0d ∷ 0x0e ∷ 0x0f
+    ∷ 0x10 ∷ 0x11 ∷ 0x12 ∷ 0x13 ∷ 0x14 ∷ 0x15 ∷ 0x16 ∷ 0x17 ∷ 0x18 ∷ 0x19 ∷ 0x1a ∷ 0x1b ∷ 0x1c ∷ 0x1d ∷ 0x1e ∷ 0x1f
+    ∷ 0x20 ∷ 0x21 ∷ 0x22 ∷ 0x23 ∷ 0x24 ∷ 0x25 ∷ 0x26 ∷ 0x27 ∷ 0x28 ∷ 0x29 ∷ 0x2a ∷ 0x2b ∷ 0x2c ∷ 0x2d ∷ 0x2e ∷ 0x2f
+    ∷ 0x30 ∷ 0x31 ∷ 0x32 ∷ 0x33 ∷ 0x34 ∷ 0x35 ∷ 0x36 ∷ 0x37 ∷ 0x38 ∷ 0x39 ∷ 0x3a ∷ 0x3b ∷ 0x3c ∷ 0x3d ∷ 0x3e ∷ 0x3f
+    ∷ 0x40 ∷ 0x41 ∷ 0x42 ∷ 0x43 ∷ 0x44 ∷ 0x45 ∷ 0x46 ∷ 0x47 ∷ 0x48 ∷ 0x49 ∷ 0x4a ∷ 0x4b ∷ 0x4c ∷ 0x4d ∷ 0x4e ∷ 0x4f
+    ∷ 0x50 ∷ 0x51 ∷ 0x52 ∷ 0x53 ∷ 0x54 ∷ 0x55 ∷ 0x56 ∷ 0x57 ∷ 0x58 ∷ 0x59 ∷ 0x5a ∷ 0x5b ∷ 0x5c ∷ 0x5d ∷ 0x5e ∷ 0x5f
+    ∷ 0x60 ∷ 0x61 ∷ 0x62 ∷ 0x63 ∷ []
 
 -- at the far gateway and at a waypoint: an SRH of two segments, with SL and hop limit
 abbrev pub toE6 : (segmentsLeft : ℕ) → List ℕ
@@ -97,6 +116,9 @@ examples =
     ∷ is (argsOctets (argsAt (0xff ∷ 1 ∷ 2 ∷ 3 ∷ 4 ∷ []) 0)) (argsOctets (argsOf 63 1))
     ∷ is (argsOctets (carriedBy 0 [] [] message .args)) args9
     ∷ is (carriedBy 0 [] [] message .inner) (0x60 ∷ 0x00 ∷ [])
+    -- rows 9 to 13 pass it in downlink, and row 13 refuses it in uplink
+    ∷ is (told (verdict (messageRows (datagram message) ++ gPduRows downlink (datagram message)))) []
+    ∷ is (told (verdict (messageRows (datagram message) ++ gPduRows uplink (datagram message)))) (13 ∷ [])
     -- SIDs
     ∷ is (withArgs (sidOf 1) 64 (argsOf 9 1)) (0x20 ∷ 0x01 ∷ 0x0d ∷ 0xb8 ∷ 0x00 ∷ 0x0b ∷ 0x00 ∷ 0x01 ∷ 0x26 ∷ 0x01 ∷ 0x02 ∷ 0x03 ∷ 0x04 ∷ 0x00 ∷ 0x00 ∷ 0x00 ∷ [])
     ∷ is (d4Sid (Samples.rule []) (values4 [])) (0x20 ∷ 0x01 ∷ 0x0d ∷ 0xb8 ∷ 0x00 ∷ 0x0c ∷ 0xc0 ∷ 0x00 ∷ 0x02 ∷ 0x01 ∷ 0x26 ∷ 0x01 ∷ 0x02 ∷ 0x03 ∷ 0x04 ∷ 0x00 ∷ [])
