@@ -17,13 +17,13 @@ use Rattle.rules.specs.Srh.{srh}
 use Rattle.rules.specs.Gtpu as Gtpu
 use Rattle.rules.specs.Table.{addressesAt}
 use Rattle.rules.specs.Args.{Args, withArgs}
-use Rattle.rules.specs.Answer.{given, verdict, Sent, Refused, settle}
+use Rattle.rules.specs.Answer.{given, verdict, Sent, Refused, settle, outcome}
 use Rattle.rules.specs.Header.{header}
 use Rattle.rules.specs.Datagram.{datagram, messageRows, gPduRows, innerRows, extended}
 use Rattle.rules.specs.Session.{innerProtocol}
 use Rattle.rules.specs.Srv6.{srv6, srv6Payload}
 use Rattle.rules.specs.Carried.{carriedBy, carried6, datagramIn6}
-use Rattle.rules.specs.Gtp6D.{gtp6DPacket, gtp6Rows, gtp6DRows, rowsGtp6D, atGtp6D}
+use Rattle.rules.specs.Gtp6D.{gtp6DPacket, gtp6Rows, gtp6DRows, rowsGtp6D, decideGtp6D}
 use Rattle.rules.specs.D.{lastWithArgs, dPath, dPacket}
 use Rattle.rules.specs.Di.{diPath, diPacket}
 use Rattle.rules.specs.declared.Header.{Header}
@@ -87,13 +87,13 @@ module _ (e p : List ℕ) (path : List (List ℕ)) (made : List ℕ) (h : Header
       judged
       ∙ (λ i. verdict (gtp6Rows (s .view i) (message-here i) ++ (messageRows (message-here i) ++ (gPduRows (Entry.direction e) (message-here i) ++ innerRows (Entry.session e) (size-here i) (first-here i) (f i)))))
 
-  pub gtp6-refuses : (ρ : Refusal) → v ≡ Refuse ρ → settle room (atGtp6D e path made p) ≡ Refused ρ
-  unfolding atGtp6D rowsGtp6D
+  pub gtp6-refuses : (ρ : Refusal) → v ≡ Refuse ρ → settle room (outcome (decideGtp6D e path made p)) ≡ Refused ρ
+  unfolding rowsGtp6D
   gtp6-refuses ρ q =
       refuse-settles room (rowsGtp6D e path p) (Sent made) ρ (sym whole-verdict ∙ q)
 
-  pub gtp6-passes : v ≡ Pass → settle room (atGtp6D e path made p) ≡ settle room (Sent made)
-  unfolding atGtp6D rowsGtp6D
+  pub gtp6-passes : v ≡ Pass → settle room (outcome (decideGtp6D e path made p)) ≡ settle room (Sent made)
+  unfolding rowsGtp6D
   gtp6-passes q =
       pass-settles room (rowsGtp6D e path p) (Sent made) (sym whole-verdict ∙ q)
 

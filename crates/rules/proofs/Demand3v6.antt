@@ -12,12 +12,12 @@ use Rattle.rules.specs.Entry as Entry
 use Rattle.rules.specs.Policy as Policy
 use Rattle.rules.specs.Ipv6 as Ipv6
 use Rattle.rules.specs.Sound.{sessionKnown, entryLimit}
-use Rattle.rules.specs.Answer.{Sent}
+use Rattle.rules.specs.Answer.{Sent, outcome}
 use Rattle.rules.specs.Session.{innerProtocol}
 use Rattle.rules.specs.Srv6.{srv6Payload}
 use Rattle.rules.specs.Carried.{Carried, carried6}
 use Rattle.rules.specs.Datagram.{innerRows}
-use Rattle.rules.specs.Gtp6D.{gtp6DPacket, gtp6DRows, atGtp6D}
+use Rattle.rules.specs.Gtp6D.{gtp6DPacket, gtp6DRows, decideGtp6D}
 use Rattle.rules.specs.D.{lastWithArgs}
 use Rattle.rules.specs.Di.{diPath, diPacket, atDi}
 use Rattle.rules.specs.E6.{e6Packet}
@@ -136,7 +136,7 @@ module _ (near : Stop) (ss : List Stop) (far : Stop) (address : List ℕ) (c : C
       entry-sends near p address (diPacket e y c) endMGtp6DDi i (r .enters) hd (n .front)
       (at-di (near .table) (entryAt (near .table) i) p (r .enters .kind)
       ∙ (λ k. atDi (r .entry k) (r .policy k) p)
-      ∙ ap (λ (c : Carried). atGtp6D e (diPath y c) (diPacket e y c) p) hc
+      ∙ ap (λ (c : Carried). outcome (decideGtp6D e (diPath y c) (diPacket e y c) p)) hc
       ∙ passed-sent e (diPath y c) (diPacket e y c) p n)
       (r .room .atNear) in
       trip-whole near ss far p _ _ _ h (o .0) (o .1)

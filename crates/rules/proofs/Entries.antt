@@ -13,7 +13,6 @@ use Rattle.rules.specs.Match.{matchEntry}
 use Rattle.rules.specs.Answer.{Sent, unless, settle}
 use Rattle.rules.specs.Header.{header, malformed}
 use Rattle.rules.specs.Waypoint.{atWaypoint}
-use Rattle.rules.specs.Gtp6D.{atGtp6D}
 use Rattle.rules.specs.D.{atD}
 use Rattle.rules.specs.Di.{atDi}
 use Rattle.rules.specs.E6.{atE6}
@@ -33,11 +32,11 @@ module _ (t e p : List ℕ) where
   at-waypoint h = rw h
 
   pub at-d : Entry.behaviour e ≡ endMGtp6D → atEntry t e p ≡ atD e (policyAt t (Entry.policy e)) p
-  unfolding atEntry decideEntry atD atGtp6D
+  unfolding atEntry decideEntry atD
   at-d h = rw h
 
   pub at-di : Entry.behaviour e ≡ endMGtp6DDi → atEntry t e p ≡ atDi e (policyAt t (Entry.policy e)) p
-  unfolding atEntry decideEntry atDi atGtp6D
+  unfolding atEntry decideEntry atDi
   at-di h = rw h
 
   pub at-e6 : Entry.behaviour e ≡ endMGtp6E → atEntry t e p ≡ atE6 e p

@@ -13,11 +13,11 @@ use Rattle.rules.specs.Entry as Entry
 use Rattle.rules.specs.Ipv6 as Ipv6
 use Rattle.rules.specs.Gtpu as Gtpu
 use Rattle.rules.specs.Gtpu.{datagramOctets}
-use Rattle.rules.specs.Answer.{Sent}
+use Rattle.rules.specs.Answer.{Sent, outcome}
 use Rattle.rules.specs.Header.{header, malformed}
 use Rattle.rules.specs.Datagram.{datagram, messageRows, gPduRows}
 use Rattle.rules.specs.Carried.{Carried, carriedBy, carried6, datagramIn6}
-use Rattle.rules.specs.Gtp6D.{gtp6Rows, gtp6DRows, rowsGtp6D, atGtp6D}
+use Rattle.rules.specs.Gtp6D.{gtp6Rows, gtp6DRows, rowsGtp6D, decideGtp6D}
 use Rattle.rules.specs.E6.{e6Packet, e6Payload}
 use Rattle.rules.proofs.Windows.{window-length}
 use Rattle.rules.proofs.Rows.{Clear, None, clear, read, none-parts, parts-none, unless-none, unless-sent}
@@ -34,16 +34,16 @@ pub record Passed (e : List ℕ) (path : List (List ℕ)) (p : List ℕ) : Type 
   pub last : None (gtp6DRows e path (carried6 p .inner))
 
 module _ (e : List ℕ) (path : List (List ℕ)) (made p : List ℕ) where
-  pub sent-passed : (x : List ℕ) → Clear (malformed (header p)) → atGtp6D e path made p ≡ Sent x → Passed e path p × (made ≡ x)
-  unfolding atGtp6D rowsGtp6D
+  pub sent-passed : (x : List ℕ) → Clear (malformed (header p)) → outcome (decideGtp6D e path made p) ≡ Sent x → Passed e path p × (made ≡ x)
+  unfolding rowsGtp6D
   sent-passed x front h =
       let g = datagram (datagramIn6 p) in
       let (n, k) = unless-sent (rowsGtp6D e path p) (Sent made) x h in
       let (a, (b, (c, d))) = none-parts (gtp6Rows (header p) g) (messageRows g) (gPduRows (Entry.direction e) g) (gtp6DRows e path (carried6 p .inner)) n in
       (record { front = front; tunnel = a; message = b; gPdu = c; last = d }, cc)
 
-  pub passed-sent : Passed e path p → atGtp6D e path made p ≡ Sent made
-  unfolding atGtp6D rowsGtp6D
+  pub passed-sent : Passed e path p → outcome (decideGtp6D e path made p) ≡ Sent made
+  unfolding rowsGtp6D
   passed-sent n =
       let g = datagram (datagramIn6 p) in
       unless-none (rowsGtp6D e path p) (Sent made)

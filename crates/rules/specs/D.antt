@@ -3,9 +3,9 @@ use mathlib.Core.List.{List, [], _∷_, _++_}
 use Prim.Native.Nat.{ℕ}
 use Rattle.rules.specs.Policy as Policy
 use Rattle.rules.specs.Args.{Args, withArgs}
-use Rattle.rules.specs.Answer.{Decision, Outcome}
+use Rattle.rules.specs.Answer.{Decision, Outcome, outcome}
 use Rattle.rules.specs.Carried.{Carried, carried6}
-use Rattle.rules.specs.Gtp6D.{gtp6DPacket, decideGtp6D, atGtp6D}
+use Rattle.rules.specs.Gtp6D.{gtp6DPacket, decideGtp6D}
 
 -- a policy's last SID with Args; its other bits stay
 abbrev pub lastWithArgs : (y : List ℕ) → Args → List ℕ
@@ -22,4 +22,4 @@ abbrev pub decideD : (e y p : List ℕ) → Decision
 decideD e y p = decideGtp6D e (dPath y (carried6 p)) (dPacket e y (carried6 p)) p
 
 unfoldable pub atD : (e y p : List ℕ) → Outcome
-atD e y p = atGtp6D e (dPath y (carried6 p)) (dPacket e y (carried6 p)) p
+atD e y p = outcome (decideD e y p)

@@ -4,7 +4,7 @@ use lib.ListN.{length}
 use Prim.Native.Nat.{ℕ}
 use Rattle.rules.specs.Octets.{octet}
 use Rattle.rules.specs.Entry as Entry
-use Rattle.rules.specs.Answer.{Row, row, segmentsLeftRow, upperLayerRow, Decision, Outcome, outcome}
+use Rattle.rules.specs.Answer.{Row, row, segmentsLeftRow, upperLayerRow, Decision}
 use Rattle.rules.specs.Header.{header, badChain, segmentsRemain}
 use Rattle.rules.specs.Datagram.{datagram, notGtpu, messageRows, gPduRows, innerRows}
 use Rattle.rules.specs.Carried.{Carried, carried6, datagramIn6}
@@ -36,6 +36,3 @@ rowsGtp6D e path p =
 -- a packet p at the entry e, from which a packet along a path is made
 abbrev pub decideGtp6D : (e : List ℕ) (path : List (List ℕ)) (made p : List ℕ) → Decision
 decideGtp6D e path made p = record { rows = rowsGtp6D e path p; packet = made }
-
-unfoldable pub atGtp6D : (e : List ℕ) (path : List (List ℕ)) (made p : List ℕ) → Outcome
-atGtp6D e path made p = outcome (decideGtp6D e path made p)
