@@ -7,7 +7,7 @@ rules an edit out is the first declaration that the checker shows to be false:
 
   false     `omega` shows values at which the goal fails; or a claim that only has to be computed comes out otherwise
             (`T (...)` that is no truth, two different numbers that should be equal, `refl` in a law without parameters)
-  unproved  `omega`, `search` or another prover finds no proof, and no values at which the goal fails
+  unproved  `omega`, `search` or `cc` finds no proof, and no values at which the goal fails
   misfit    the proof's text no longer fits: a missing name, `rw` that finds nothing, types that differ in an open term
 
 The first false one is told; without any, the first unproved one, and without that the first misfit, each with a mark.
@@ -133,6 +133,7 @@ def sides(type_):
     return None
 
 
+NO_PROOF = r"`omega` found no proof|`\w+`: no proof of .* was found|`cc`[^`]*\bjoin|^it is not proved that "
 UNIT_FOR_T = (
     r"expected type `(?:[^` ]+\.)?T [^`]*`,? but this has type `(?:[^` ]+\.)?Unit\b"
     r"|`(?:[^` ]+\.)?Unit\b[^`]*` ≟ `(?:[^` ]+\.)?T [^`]*` does not hold"
@@ -151,7 +152,7 @@ def kind_of(text, parameters):
     # `omega` has values for what it read: of the goal, of a part of it, of what a rule asks for it
     if re.search(r"`omega`.*\bAll of that holds, and [^`]{1,40} fails, at ", text):
         return FALSE
-    if re.search(r"`omega` found no proof|`\w+`: no proof of .* was found|^it is not proved that ", text):
+    if re.search(NO_PROOF, text):
         return UNPROVED
 
     # both types, computed as far as they go
