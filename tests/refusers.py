@@ -187,10 +187,10 @@ def function_at(copy, file, line):
     """The function whose text has this line, or begins behind the attributes at it; after its module and type."""
     within, fitting = "", ""
     for number, text in enumerate((copy / file).read_text().splitlines(), 1):
-        begins = re.match(r"impl (\w+)|}", text)
+        begins = re.match(r"impl(?:<[^>]*>)? (\w+)|}", text)
         if begins:
             within = begins[1] or ""
-        header = re.match(r"\s*(?:pub )?(?:extern \"C\" )?fn (\w+)", text)
+        header = re.match(r'\s*(?:[a-z()"C]+ )*fn (\w+)', text)
         if header:
             fitting = "::".join(filter(None, (within, header[1])))
         if number >= line and fitting and not re.match(r"\s*(?:#|//|$)", text):
@@ -200,21 +200,20 @@ def function_at(copy, file, line):
 
 
 def has_parameters(copy, file, name):
-    """Whether a law of a proof file takes arguments. Only one that stands at the margin can have none: the others are
-    in a module with parameters, or belong to another law."""
+    """Whether a law takes arguments, by its type and its definition. One that does not stand at the margin belongs to a
+    module with parameters or to another law, and those of a function's proof speak of its arguments."""
+    if file.count("/") != 1:
+        return True
     try:
         lines = (copy / file).read_text().splitlines()
     except OSError:
         return True
-    for at, line in enumerate(lines):
-        if re.match(rf"(?:pub )?{re.escape(name)} :(?= |$)", line):
-            signature = [line]
-            for further in lines[at + 1 :]:
-                if not further.startswith(" "):
-                    break
-                signature.append(further)
-            return "→" in " ".join(part.partition("--")[0] for part in signature)
-    return True
+    law, signature, defined, within = re.escape(name), "", False, False
+    for line in lines:
+        within = bool(re.match(rf"(?:pub )?{law} :(?: |$)", line)) or (within and line.startswith(" "))
+        signature += line.partition("--")[0] if within else ""
+        defined = defined or bool(re.match(rf"{law} =(?! *λ)", line))
+    return not (signature and defined) or "→" in signature
 
 
 def refuser(copy, crate, edit):
@@ -311,20 +310,24 @@ def write(root, logs):
 def check(root, logs):
     _, rows = table((root / TABLE).read_text())
     edits_with_logs(logs)
-    wrong = 0
+    differ = silent = 0
     for at, crate, edit, said in rows:
         try:
             seen = refuser(logs / crate / edit, crate, edit)
         except Fault as fault:
             tell(f"{crate}/{edit}: {fault}")
-            wrong += 1
+            silent += 1
             continue
         if seen.cell != said:
             tell(f"{TABLE}:{at + 1}: {crate}/{edit}\n  table: {said}\n  log:   {seen.cell}\n    {reason(seen)}")
-            wrong += 1
-    print(f"refusers: {len(rows)} must-fail edits, {len(rows) - wrong} as {TABLE} says")
-    if wrong:
-        raise Fault(f"{wrong} rows differ; `tests/refusers.py --write` puts what the logs show into the table")
+            differ += 1
+    print(f"refusers: {len(rows)} must-fail edits, {len(rows) - differ - silent} as {TABLE} says", flush=True)
+    if silent:
+        tell(f"refusers.py: {silent} without a log that tells it; `rt must-fail CRATE` makes those of a crate")
+    if differ:
+        tell(f"refusers.py: {differ} otherwise; `tests/refusers.py --write` puts what the logs show into the table")
+    if differ or silent:
+        sys.exit(1)
 
 
 def show(logs, explain):
@@ -340,7 +343,7 @@ def show(logs, explain):
         if explain:
             print(f"    {reason(seen)}")
     if wrong:
-        raise Fault(f"{wrong} logs tell nothing")
+        raise Fault(f"{wrong} of the logs do not tell it")
 
 
 def tell(words):
