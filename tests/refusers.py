@@ -32,8 +32,8 @@ ROW = re.compile(r"\| `([a-z0-9_]+)` \| `([a-z0-9_]+)` \| (.*) \| ([^|]*) \|")
 
 FALSE, UNPROVED, MISFIT = "false", "unproved", "misfit"
 
-Error = collections.namedtuple("Error", "file line name text")
-Refuser = collections.namedtuple("Refuser", "cell kind file line name text")
+Error = collections.namedtuple("Error", "file line function name text")
+Refuser = collections.namedtuple("Refuser", ("cell", "kind") + Error._fields)
 
 
 class Fault(Exception):
@@ -222,22 +222,20 @@ def refuser(copy, crate, edit):
         log = (copy / ".log").read_text(errors="replace")
     except FileNotFoundError:
         raise Fault("it has no log") from None
-    if "logic=not-proved" not in log.splitlines():
+    if not re.search(r"^logic=not-proved\b", log, re.MULTILINE):
         raise Fault("its log does not say that the crate is not proved")
     errors, true = [], set()
     for word, file, line, text in entries(log, crate, edit):
-        named = re.match(r"`([^`]*)`: (.*)", text)
-        name, text = (named[1], named[2]) if named else ("", text)
-        if file.startswith("src/"):
-            name = function_at(copy, file, line)
+        function = function_at(copy, file, line) if file.startswith("src/") else ""
         if word == "error":
-            errors.append(Error(file, line, name, text))
+            name, _, words = re.fullmatch(r"(?:`([^`]*)`(: ))?(.*)", text).groups(default="")
+            errors.append(Error(file, line, function, name, words))
         elif re.search(r"\btrial runs? of this declaration was admitted\b", text):
-            true.add((file, name or text.rpartition("(in `")[2].removesuffix("`)")))
+            true.add((file, function, text.rpartition("(in `")[2].removesuffix("`)")))
     first = {}
     for error in errors:
         kind = kind_of(error.text, has_parameters(copy, error.file, error.name))
-        if kind and (error.file, error.name) in true:
+        if kind and (error.file, error.function, error.name) in true:
             kind = MISFIT
         if kind:
             first.setdefault(kind, error)
@@ -249,13 +247,12 @@ def refuser(copy, crate, edit):
 
 def cell_of(error, kind):
     """The table's last column: a law with its file, or a function; and a mark where no false fact is shown."""
-    parts = error.file.split("/")
-    if parts[0] == "src":
-        cell = f"`{error.name}`"
-    elif parts[0] == "proofs" and len(parts) > 2:
-        cell = f"`{'::'.join(parts[1:-1])}`"
+    *folders, file = error.file.split("/")
+    function = error.function or "::".join(folders[1:])
+    if function:
+        cell = f"`{function}`"
     else:
-        cell = f"`{error.name}` (`{parts[-1]}`)"
+        cell = f"`{error.name}` (`{file}`)" if error.name else f"`{file}`"
     return cell if kind == FALSE else f"{cell}, {kind}"
 
 
