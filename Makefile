@@ -4,7 +4,7 @@ SHELL := bash
 .SHELLFLAGS := -eu -o pipefail -c
 .DELETE_ON_ERROR:
 .NOTPARALLEL:
-.PHONY: all prove test ci toolchain tools format second staticlib library programs boundary fuzz mutants peers tool tool-test demo demo-packages bench bench-proofs bench-packages clean
+.PHONY: all prove test ci toolchain tools format refusers second staticlib library programs boundary fuzz mutants peers tool tool-test demo demo-packages bench bench-proofs bench-packages clean
 
 archive := target/staticlib/libkawsarpa.a
 second := tests/second/target/release/second
@@ -17,7 +17,7 @@ prove: toolchain
 	rt check
 
 # Everything. The library is built from what `rt ci` proved, so that is first; its count of what passed is said again at the end.
-test: toolchain tools format second ci library programs boundary tool-test
+test: toolchain tools format second ci refusers library programs boundary tool-test
 	@tail -n 1 target/ci.log
 
 # every proof from nothing, and the must-fail edits; `rt ci` removes target/, so its output goes there afterwards
@@ -52,6 +52,10 @@ tools:
 format:
 	rt fmt --check
 	tests/docs.sh
+
+# what refuses each must-fail edit is what docs/STATEMENTS.md says, by the logs that `rt ci` left: so behind `ci`
+refusers: tools
+	tests/docs.sh refusers
 
 # the second program: its own tests, and the worked packets of document 01
 second:

@@ -1,9 +1,18 @@
 #!/usr/bin/env bash
 # docs.sh: what the documents list is there. The must-fail edits of docs/STATEMENTS.md are those of the crates, with their first lines; every
 # crate of crates.txt has a row in docs/ARCHITECTURE.md; links between documents lead to files.
+# docs.sh refusers: what refuses each of these edits, by the logs of `rt ci`, is what docs/STATEMENTS.md says.
 set -eu -o pipefail
 export LC_ALL=C
 cd "$(dirname "$0")/.."
+case ${1-} in
+'') ;;
+refusers) exec python3 -B tests/refusers.py --check ;;
+*)
+    echo "usage: docs.sh [refusers]" >&2
+    exit 2
+    ;;
+esac
 work=$(mktemp -d)
 trap 'rm -rf "$work"' EXIT
 
