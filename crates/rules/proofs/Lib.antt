@@ -34,6 +34,7 @@ pub mod Demand3
 pub mod Samples
 pub mod FaultSamples
 pub mod Worked
+pub mod Thresholds
 pub mod Premises
 pub mod AnswerTable
 pub mod Refusals

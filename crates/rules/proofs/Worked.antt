@@ -129,6 +129,11 @@ examples =
     ∷ is (call in164 (table endMGtp6D 2) 1500) (sent 196)
     ∷ is (call in164 (table endMGtp6DDi 0) 1500) (sent 180)
     ∷ is (octetsOf (trip (stopOf endMGtp6DDi 0 ∷ stopOf endMGtp6DDi 0 ∷ []) in164 .outcome)) in164
+    -- past two waypoints
+    ∷ is (octetsOf (trip (replicate 4 (stopOf endMGtp6DDi 2)) in164 .outcome)) in164
+    -- destination is the first SID, with Args if there is one
+    ∷ is (Ipv6.destination (octetsOf (translate6 in164 (table endMGtp6D 0) 1500))) (withArgs (sidOf 1) 64 (argsOf 9 1))
+    ∷ is (Ipv6.destination (octetsOf (translate6 in164 (table endMGtp6D 2) 1500))) (sidOf 2)
     -- room
     ∷ is (call in164 (table endMGtp6D 0) 163) (16 ∷ 0 ∷ 0 ∷ 0 ∷ 0 ∷ [])
     ∷ is (call in164 (table endMGtp6D 0) 164) (sent 164)
