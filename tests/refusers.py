@@ -8,9 +8,11 @@ rules an edit out is the first declaration that the checker shows to be false:
   false     `omega` shows values at which the goal fails; or a claim that only has to be computed comes out otherwise
             (`T (...)` that is no truth, two different numbers that should be equal, `refl` in a law without parameters)
   unproved  `omega`, `search` or `cc` finds no proof, and no values at which the goal fails
-  misfit    the proof's text no longer fits: a missing name, `rw` that finds nothing, types that differ in an open term
+  differs   what is to be proved and what the proof has differ in an open term, or the proof's text no longer fits; an
+            error of this kind does not tell which of the two it is
 
-The first false one is told; without any, the first unproved one, and without that the first misfit, each with a mark.
+The first false one is told; without any, the first unproved one, and without that the first that differs, each with a
+mark.
 Errors that follow from others ("was not admitted") never count, nor do those of a declaration that the checker admits
 in a trial run with more definitions unfolded: its law is true.
 
@@ -30,7 +32,7 @@ TABLE = pathlib.Path("docs/STATEMENTS.md")
 TABLE_BEGINS = "<!-- must-fail table -->"
 ROW = re.compile(r"\| `([a-z0-9_]+)` \| `([a-z0-9_]+)` \| (.*) \| ([^|]*) \|")
 
-FALSE, UNPROVED, MISFIT = "false", "unproved", "misfit"
+FALSE, UNPROVED, DIFFERS = "false", "unproved", "differs"
 
 Error = collections.namedtuple("Error", "file line function name text")
 Refuser = collections.namedtuple("Refuser", ("cell", "kind") + Error._fields)
@@ -177,7 +179,7 @@ def kind_of(text, parameters):
             return FALSE  # two numbers in a list that is spelled out to its end
         if not parameters:
             return FALSE
-    return MISFIT
+    return DIFFERS
 
 
 # ---- which declaration refuses
@@ -236,10 +238,10 @@ def refuser(copy, crate, edit):
     for error in errors:
         kind = kind_of(error.text, has_parameters(copy, error.file, error.name))
         if kind and (error.file, error.function, error.name) in true:
-            kind = MISFIT
+            kind = DIFFERS
         if kind:
             first.setdefault(kind, error)
-    for kind in (FALSE, UNPROVED, MISFIT):
+    for kind in (FALSE, UNPROVED, DIFFERS):
         if kind in first:
             return Refuser(cell_of(first[kind], kind), kind, *first[kind])
     raise Fault("its log has no error but those that follow from others")
