@@ -37,6 +37,7 @@ pub mod Worked
 pub mod Premises
 pub mod AnswerTable
 pub mod Refusals
+pub mod Layouts
 pub mod Smallest
 pub mod PathFields
 pub mod D4Fields
