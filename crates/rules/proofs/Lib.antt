@@ -38,6 +38,7 @@ pub mod Thresholds
 pub mod Premises
 pub mod AnswerTable
 pub mod Refusals
+pub mod Layouts
 pub mod Smallest
 pub mod PathFields
 pub mod D4Fields

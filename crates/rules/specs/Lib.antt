@@ -16,6 +16,7 @@ pub mod Srh
 pub mod Checksum
 pub mod Ipv4
 pub mod Gtpu
+pub mod Layout
 pub mod Answer
 pub mod Header
 pub mod Datagram
