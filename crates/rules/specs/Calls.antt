@@ -46,16 +46,16 @@ decideEntry t e p =
 unfoldable pub atEntry : (t e p : List ℕ) → Outcome
 atEntry t e p = outcome (decideEntry t e p)
 
--- rows from 4 on, with the entry and with the rule that is found; where none is, row 4 refuses and no packet is made
+-- rows from 4 on, with the record that is found; where none is, row 4 refuses and no packet is made
+abbrev pub withFound : (decideAt : ℕ → Decision) → Found → Decision
+withFound decideAt Nothing = record { rows = unmatchedRow Nothing ∷ []; packet = [] }
+withFound decideAt (At i) = record { rows = unmatchedRow (At i) ∷ decideAt i .rows; packet = decideAt i .packet }
+
 unfoldable pub decideFoundEntry : (t p : List ℕ) → Found → Decision
-decideFoundEntry t p Nothing = record { rows = unmatchedRow Nothing ∷ []; packet = [] }
-decideFoundEntry t p (At i) =
-    record { rows = unmatchedRow (At i) ∷ decideEntry t (entryAt t i) p .rows; packet = decideEntry t (entryAt t i) p .packet }
+decideFoundEntry t p found = withFound (λ i. decideEntry t (entryAt t i) p) found
 
 unfoldable pub decideFoundRule : (t p : List ℕ) → Found → Decision
-decideFoundRule t p Nothing = record { rows = unmatchedRow Nothing ∷ []; packet = [] }
-decideFoundRule t p (At k) =
-    record { rows = unmatchedRow (At k) ∷ decideD4 (ruleAt t k) p .rows; packet = decideD4 (ruleAt t k) p .packet }
+decideFoundRule t p found = withFound (λ k. decideD4 (ruleAt t k) p) found
 
 unfoldable pub atFoundEntry : (t p : List ℕ) → Found → Outcome
 atFoundEntry t p found = outcome (decideFoundEntry t p found)
