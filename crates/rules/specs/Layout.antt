@@ -59,7 +59,7 @@ pub record SrhOctets (p : List ℕ) : Type 0 where
   pub tag : Number16 p 46 (Srh.tag p)
   pub segment : (k : ℕ) → Part p (48 + 16 * k) 16 (Srh.segment p k)
 
--- IPv4 (RFC 791, 3.1)
+-- IPv4 (RFC 791)
 pub record Ipv4Octets (p : List ℕ) : Type 0 where
   pub octet0 : octet p 0 ≡ Ipv4.version p * 16 + Ipv4.headerLength p
   pub version : Bits 4 (Ipv4.version p)
@@ -79,7 +79,7 @@ pub record Ipv4Octets (p : List ℕ) : Type 0 where
   pub source : Part p 12 4 (Ipv4.source p)
   pub destination : Part p 16 4 (Ipv4.destination p)
 
--- UDP (RFC 768), the GTP-U message in it (TS 29.281, 5.1) with its four further octets, and a PDU Session container (TS 38.415, 5.5.2)
+-- UDP (RFC 768), the GTP-U message in it (TS 29.281) with its four further octets, and a PDU Session container (TS 38.415)
 pub record GtpuOctets (u : List ℕ) : Type 0 where
   pub sourcePort : Number16 u 0 (Gtpu.sourcePort u)
   pub destinationPort : Number16 u 2 (Gtpu.destinationPort u)
