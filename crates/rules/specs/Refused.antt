@@ -33,7 +33,7 @@ upperAt p = cond (eqb (Ipv6.nextHeader p) 43) (48 + 8 * Srh.units p) 40
 abbrev pub behind : List ℕ → List ℕ
 behind p = drop (upperAt p) p
 
--- 2
+-- 2: shorter than 40 (IPv4: 20) octets, wrong version, or the length field disagrees with the packet lent
 
 pub data Malformed6 (p : List ℕ) : Type 0 where
   short : length p < 40 → Malformed6 p
@@ -45,7 +45,7 @@ pub data Malformed4 (p : List ℕ) : Type 0 where
   version : Ipv4.version p ≢ 4 → Malformed4 p
   lengthField : Ipv4.totalLength p ≢ length p → Malformed4 p
 
--- 3: a fragment has More Fragments or an offset, the low fourteen bits of octets 6 and 7 (RFC 791)
+-- 3: header length not 5, wrong checksum, a fragment: More Fragments or an offset, the low fourteen bits of octets 6 and 7 (RFC 791)
 
 pub data BadIpv4 (p : List ℕ) : Type 0 where
   headerLength : Ipv4.headerLength p ≢ 5 → BadIpv4 p
@@ -107,7 +107,7 @@ pub data BadLeftWaypoint (p : List ℕ) : Type 0 where
   beyondHeld : Ipv6.nextHeader p ≡ 43 → 0 < Srh.segmentsLeft p → Srh.units p < 2 * (Srh.lastEntry p + 1) → BadLeftWaypoint p
   beyondLast : Ipv6.nextHeader p ≡ 43 → 0 < Srh.segmentsLeft p → Srh.lastEntry p + 1 < Srh.segmentsLeft p → BadLeftWaypoint p
 
--- 8
+-- 8: the upper layer is none that the kind takes
 
 -- D, Di and D4, by the protocol and the datagram: not UDP, or destination port not 2152, which is read only if 8 UDP octets are there
 pub data NotGtpu (protocol : ℕ) (u : List ℕ) : Type 0 where
