@@ -42,6 +42,7 @@ pub mod Layouts
 pub mod Smallest
 pub mod PathFields
 pub mod D4Fields
+pub mod Values
 pub mod SentFields
 pub mod Given
 pub mod GivenWhen

@@ -33,7 +33,7 @@ pub mod D4
 pub mod Calls
 pub mod Trip
 pub mod Written
-pub mod Sent
 pub mod Refused
+pub mod Sent
 pub mod Given
 pub mod Demand3

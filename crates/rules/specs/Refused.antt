@@ -166,7 +166,7 @@ pub data BadInner (session : ℕ) (inner : List ℕ) : Type 0 where
   empty : session ≡ 3 → length inner ≡ 0 → BadInner session inner
   nibble : session ≡ 3 → octet inner 0 / 16 ≢ 4 → octet inner 0 / 16 ≢ 6 → BadInner session inner
 
--- BY KIND: `applies` tells of each number whether it applies
+-- BY KIND: `applies` tells of each number whether it applies; 11, 15 and 16 are said in their fields
 
 -- numbers that a kind does not have
 abbrev pub Never : (applies : ℕ → Bool) → List ℕ → Type 0
