@@ -4,27 +4,12 @@ use mathlib.Core.List.{List, [], _∷_, _++_}
 use Prim.Native.Nat.{ℕ, _+_, _-_}
 use lib.Dec.{T, eqb}
 use lib.ListN.{length, take, replicate}
-use Rattle.rules.specs.Octets.{put16, window, number, splice}
-use Rattle.rules.specs.Prefix.{firstBits, under, clear}
+use Rattle.rules.specs.Octets.{put16}
 use Rattle.rules.specs.Assigned.{endMGtp6D}
-use Rattle.rules.specs.Table.{entryAt, ruleAt, policyAt, addressesAt}
-use Rattle.rules.specs.Match.{longest, matchEntry, matchRule}
-use Rattle.rules.specs.Sound.{all, headerSound, entrySound, ruleSound, policySound, sameEntryPrefix, sameRulePrefix, distinct, soundWithin}
-use Rattle.rules.specs.Srh.{segment}
-use Rattle.rules.specs.Checksum.{onesSum, checksum}
-use Rattle.rules.specs.Args.{argsAt, withArgs}
-use Rattle.rules.specs.Answer.{Outcome, Sent, Refused, verdict}
-use Rattle.rules.specs.Header.{header}
-use Rattle.rules.specs.Datagram.{innerRows, datagram, messageRows, gPduRows}
-use Rattle.rules.specs.Session.{innerProtocol, accepts}
-use Rattle.rules.specs.Carried.{carriedBy, carried6, carried4}
-use Rattle.rules.specs.Waypoint.{withRouting, forwarded, waypointRows, stepRows}
-use Rattle.rules.specs.Gtp6D.{gtp6DPacket, gtp6Rows, rowsGtp6D}
-use Rattle.rules.specs.D.{dPath, dPacket}
-use Rattle.rules.specs.E6.{e6Carried, e6Packet, e6Rows, rowsE6}
-use Rattle.rules.specs.E4.{e4Carried, e4Packet, e4Rows, rowsE4}
-use Rattle.rules.specs.D4.{header4, d4Sid, d4Source, d4Packet, gtp4Rows, rowsD4}
-use Rattle.rules.specs.Calls.{decideEntry, decideFoundEntry, decideFoundRule, frontRows6, frontRows4, rows6, rows4, translate6, translate4}
+use Rattle.rules.specs.Checksum.{checksum}
+use Rattle.rules.specs.Answer.{Outcome, Sent, Refused}
+use Rattle.rules.specs.Calls.{translate6, translate4}
+use Rattle.rules.proofs.Computing.{computing}
 use Rattle.rules.proofs.Samples as Samples
 use Rattle.rules.proofs.Samples.{zeros, network, sidOf, gateway6, table}
 
@@ -232,5 +217,5 @@ samples =
     ∷ []
 
 pub thresholds : T (right samples)
-unfolding samples window number splice firstBits under clear entryAt ruleAt policyAt addressesAt longest matchEntry matchRule all headerSound entrySound ruleSound policySound sameEntryPrefix sameRulePrefix distinct soundWithin segment onesSum argsAt withArgs verdict header datagram messageRows gPduRows innerProtocol accepts carriedBy carried6 carried4 withRouting forwarded waypointRows stepRows gtp6DPacket gtp6Rows innerRows rowsGtp6D dPath dPacket e6Carried e6Packet e6Rows rowsE6 e4Carried e4Packet e4Rows rowsE4 header4 d4Sid d4Source d4Packet gtp4Rows rowsD4 decideEntry decideFoundEntry decideFoundRule frontRows6 frontRows4 rows6 rows4 translate6 translate4
+unfolding samples computing
 thresholds = tt
