@@ -18,12 +18,12 @@ use Rattle.rules.specs.Header.{header}
 use Rattle.rules.specs.Datagram.{innerRows, messageRows, gPduRows}
 use Rattle.rules.specs.Carried.{carried6}
 use Rattle.rules.specs.Waypoint.{waypointRows, stepRows, decideWaypoint}
-use Rattle.rules.specs.Gtp6D.{gtp6Rows, gtp6DRows, rowsGtp6D, decideGtp6D}
+use Rattle.rules.specs.Gtp6D.{gtp6Rows, rowsGtp6D, decideGtp6D}
 use Rattle.rules.specs.D.{dPath, dPacket, decideD}
 use Rattle.rules.specs.Di.{diPath, diPacket, decideDi}
 use Rattle.rules.specs.E6.{e6Rows, rowsE6, decideE6}
 use Rattle.rules.specs.E4.{e4Rows, rowsE4, decideE4}
-use Rattle.rules.specs.D4.{header4, gtp4Rows, d4Rows, rowsD4, decideD4}
+use Rattle.rules.specs.D4.{header4, gtp4Rows, rowsD4, decideD4}
 use Rattle.rules.specs.Calls.{decideEntry, decideFoundEntry, decideFoundRule, frontRows6, frontRows4, rows6, rows4}
 use Rattle.rules.specs.Refused.{upperAt}
 use Rattle.rules.specs.Given.{icmp, withoutIcmp, withIcmp}

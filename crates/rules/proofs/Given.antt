@@ -1,15 +1,15 @@
 -- The two calls: of the numbers that apply the first is given; every answer is one of document 01's list; what the output holds afterwards.
 use mathlib.Core.Path.{_≡_, refl, sym, ap, subst}
 use mathlib.Core.Bool.{Bool, true, false, cond}
-use mathlib.Core.List.{List, [], _∷_, _++_}
-use Prim.Native.Nat.{ℕ, _+_, _-_, _*_, _/_, _%_, _≤_, _<_}
+use mathlib.Core.List.{List}
+use Prim.Native.Nat.{ℕ, _+_, _*_, _≤_, _<_}
 use native.Mathlib.Omega.{arith}
 use lib.Dec.{eqb}
 use lib.ListN.{length}
-use Rattle.rules.specs.Octets.{Octets, octet, window, splice}
+use Rattle.rules.specs.Octets.{Octets, window, splice}
 use Rattle.rules.specs.Ipv6 as Ipv6
 use Rattle.rules.specs.Srh as Srh
-use Rattle.rules.specs.Answer.{Row, verdict, applies, Decision, Outcome, Sent, Refused, after, outcome, inRoom, overlay, packed}
+use Rattle.rules.specs.Answer.{verdict, applies, Decision, Outcome, Sent, Refused, after, outcome, inRoom, overlay, packed}
 use Rattle.rules.specs.Calls.{decide6, decide4, rows6, rows4, translate6, translate4}
 use Rattle.rules.specs.Refused.{upperAt}
 use Rattle.rules.specs.Given.{GoesBy, icmp, withoutIcmp, withIcmp, ReadBack, Listed, Leaves}
@@ -17,7 +17,7 @@ use Rattle.rules.specs.declared.Refusal.{Refusal}
 use Rattle.rules.specs.declared.Verdict.{Verdict}
 use Rattle.rules.specs.declared.Verdict.the-variants.{Pass, Refuse}
 use Rattle.rules.proofs.Smallest.{goes-by}
-use Rattle.rules.proofs.AnswerTable.{Proper, Tabled, EachProper, verdict-proper, tabled6, tabled4}
+use Rattle.rules.proofs.AnswerTable.{EachProper, verdict-proper, tabled6, tabled4}
 use Rattle.rules.proofs.Splices.{splice-length, splice-window, splice-other}
 use Rattle.rules.proofs.SentFields.{sent6-size, sent4-size}
 

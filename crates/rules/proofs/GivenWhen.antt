@@ -1,15 +1,14 @@
 -- Each number of each call applies exactly where Refused.antt says that it is given.
 use mathlib.Core.Path.{_≡_, refl, sym, ap, _∙_, subst}
-use mathlib.Core.Logic.{_≢_}
 use mathlib.Core.Bool.{Bool, true, false, not, _||_, true≢false}
 use mathlib.Core.List.{List, [], _∷_, _++_}
 use Prim.Native.Nat.{ℕ, _+_, _-_, _*_, _≤_, _<_}
 use native.Mathlib.Omega.{arith}
-use lib.Dec.{eqb, ltb}
+use lib.Dec.{ltb}
 use lib.ListN.{length, drop}
 use borrow.Author.Tests.{eqb-true, eq-eqb}
 use Rattle.rules.specs.Exactly.{Exactly}
-use Rattle.rules.specs.Octets.{Octets, number}
+use Rattle.rules.specs.Octets.{Octets}
 use Rattle.rules.specs.Prefix.{under, firstBits}
 use Rattle.rules.specs.Table.{entries, rules, entryAt, ruleAt, policyAt}
 use Rattle.rules.specs.Entry as Entry
@@ -34,7 +33,7 @@ use Rattle.rules.specs.E6.{e6Carried, e6Packet, e6Rows, rowsE6, decideE6
 use Rattle.rules.specs.E4.{e4Carried, e4Packet, e4Rows, rowsE4, decideE4}
 use Rattle.rules.specs.D4.{header4, malformed4, badHeader4, d4Packet, gtp4Rows, rowsD4, decideD4}
 use Rattle.rules.specs.Calls.{unsoundRow, nothing, decideEntry, decideFoundEntry, decideFoundRule, frontRows6, frontRows4, rows6, rows4}
-use Rattle.rules.specs.Refused.{upper, upperAt, behind, NoEntry, NoRule, GivenWaypoint, GivenDatagram, GivenGtp6D, GivenE6, GivenE4, GivenD4, GivenAtEntry, Given6, Given4}
+use Rattle.rules.specs.Refused.{upper, behind, NoEntry, NoRule, GivenWaypoint, GivenGtp6D, GivenE6, GivenE4, GivenD4, GivenAtEntry, Given6, Given4}
 use Rattle.rules.specs.declared.Found.{Found}
 use Rattle.rules.specs.declared.Found.the-variants.{At, Nothing}
 use Rattle.rules.proofs.SoundTables.{sound-table}
@@ -42,13 +41,13 @@ use Rattle.rules.proofs.Windows.{window-length}
 use Rattle.rules.proofs.Longest.{Best, longest-best}
 use Rattle.rules.proofs.Tables.{found-d, found-di, found-rule}
 use Rattle.rules.proofs.NearGtp6.{carried6-valid}
-use Rattle.rules.proofs.NearD4.{carried4-valid, carried4-source}
+use Rattle.rules.proofs.NearD4.{carried4-valid}
 use Rattle.rules.proofs.Paths.{addressesAt-length}
 use Rattle.rules.proofs.PathFields.{path-length, d-written, di-written}
 use Rattle.rules.proofs.D4Fields.{d4-written}
 use Rattle.rules.proofs.Smallest.{early}
 use Rattle.rules.proofs.AnswerTable.{entry-tabled}
-use Rattle.rules.proofs.Exact.{only, only-not, over, exactly-as}
+use Rattle.rules.proofs.Exact.{only, only-not, over}
 use Rattle.rules.proofs.FarE6.{e6-length}
 use Rattle.rules.proofs.FarE4.{e4-length}
 use Rattle.rules.proofs.SentFields.{e6Carried-valid, e4Carried-valid}

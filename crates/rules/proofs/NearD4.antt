@@ -14,7 +14,6 @@ use Rattle.rules.specs.Entry as Entry
 use Rattle.rules.specs.Rule as Rule
 use Rattle.rules.specs.Ipv4 as Ipv4
 use Rattle.rules.specs.Ipv4.{ipv4}
-use Rattle.rules.specs.Gtpu as Gtpu
 use Rattle.rules.specs.Gtpu.{datagramOctets}
 use Rattle.rules.specs.Sound.{sound}
 use Rattle.rules.specs.Match.{matchRule}

@@ -2,7 +2,7 @@
 use mathlib.Core.Path.{_≡_, refl, sym, ap, _∙_}
 use mathlib.Core.Bool.{cond}
 use mathlib.Core.List.{List, []}
-use Prim.Native.Nat.{ℕ, _+_, _-_}
+use Prim.Native.Nat.{ℕ, _+_}
 use native.Mathlib.Omega.{arith}
 use lib.Dec.{eqb}
 use lib.ListN.{length}
@@ -11,7 +11,6 @@ use Rattle.rules.specs.Octets.{octet, Octets}
 use Rattle.rules.specs.Assigned.{udpProtocol, downlink}
 use Rattle.rules.specs.Entry as Entry
 use Rattle.rules.specs.Ipv6 as Ipv6
-use Rattle.rules.specs.Gtpu as Gtpu
 use Rattle.rules.specs.Gtpu.{datagramOctets}
 use Rattle.rules.specs.Answer.{Sent, outcome}
 use Rattle.rules.specs.Header.{header, malformed}

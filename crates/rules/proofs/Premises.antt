@@ -1,12 +1,10 @@
 -- The premises of demand 3 can be met: trips from Di to E6 and from D4 to E4, past no waypoint and past two, checked by computation.
 use mathlib.Core.Path.{refl}
 use mathlib.Core.List.{List, [], _∷_}
-use Prim.Native.Nat.{ℕ, _-_}
+use Prim.Native.Nat.{ℕ}
 use lib.Dec.{lit<, lit≤}
 use lib.ListN.{replicate}
 use Rattle.rules.specs.Assigned.{end, endMGtp6D, endMGtp6DDi}
-use Rattle.rules.specs.Ipv6 as Ipv6
-use Rattle.rules.specs.Ipv4 as Ipv4
 use Rattle.rules.specs.Trip.{Version, v4, v6, Stop, call}
 use Rattle.rules.specs.Demand3.{AtEntry, Matching, over6, over4, MatchingD}
 use Rattle.rules.proofs.Computing.{computing}

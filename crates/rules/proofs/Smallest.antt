@@ -5,9 +5,9 @@ use mathlib.Core.List.{List, [], _∷_}
 use Prim.Native.Nat.{ℕ, suc, _≤_, _<_}
 use native.Mathlib.Omega.{arith}
 use native.Mathlib.Decide.{ℕ-discrete, decLt}
-use lib.Dec.{eqb, leb}
+use lib.Dec.{leb}
 use borrow.Author.Tests.{leb-true, eq-eqb, ne-eqb}
-use Rattle.rules.specs.Answer.{Row, any, verdict, place, inPlace, applies, Decision, Outcome, Sent, Refused, after, outcome}
+use Rattle.rules.specs.Answer.{Row, any, verdict, place, inPlace, applies, Decision, Sent, Refused, after, outcome}
 use Rattle.rules.specs.Given.{First, GoesBy}
 use Rattle.rules.specs.declared.Refusal.{Refusal}
 use Rattle.rules.specs.declared.Verdict.{Verdict}

@@ -11,7 +11,7 @@ use Rattle.rules.specs.Exactly.{Exactly}
 use Rattle.rules.specs.Octets.{Octets, number}
 use Rattle.rules.specs.Assigned as Assigned
 use Rattle.rules.specs.Assigned.{end, endMGtp6D, endMGtp6DDi, endMGtp6E, ipv4Session, ipv6Session, ipv4v6Session}
-use Rattle.rules.specs.Table.{entries, rules, policies, entryAt, ruleAt, policyAt}
+use Rattle.rules.specs.Table.{policies, entryAt, ruleAt, policyAt}
 use Rattle.rules.specs.Entry as Entry
 use Rattle.rules.specs.Rule as Rule
 use Rattle.rules.specs.Policy as Policy

@@ -1,9 +1,9 @@
 -- Sample packets on both sides of each threshold of rows 2 to 14, and what the calls answer them: one list, checked by computation.
-use mathlib.Core.Bool.{Bool, true, false, _&&_}
+use mathlib.Core.Bool.{Bool, true, _&&_}
 use mathlib.Core.List.{List, [], _∷_, _++_}
-use Prim.Native.Nat.{ℕ, _+_, _-_}
+use Prim.Native.Nat.{ℕ, _+_}
 use lib.Dec.{T, eqb}
-use lib.ListN.{length, take, replicate}
+use lib.ListN.{length, take}
 use Rattle.rules.specs.Octets.{put16}
 use Rattle.rules.specs.Assigned.{endMGtp6D}
 use Rattle.rules.specs.Checksum.{checksum}

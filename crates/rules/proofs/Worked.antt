@@ -1,7 +1,7 @@
 -- The starred worked packets of document 01: rows of one list, under one claim about the definitions.
 use mathlib.Core.Bool.{Bool, true, false, _&&_}
 use mathlib.Core.List.{List, [], _∷_, _++_}
-use Prim.Native.Nat.{ℕ, _-_}
+use Prim.Native.Nat.{ℕ}
 use lib.Dec.{T, eqb}
 use lib.ListN.{length, take, replicate}
 use Rattle.rules.specs.Assigned.{endMGtp6D, endMGtp6DDi, ipv6Protocol, routingHeader, downlink, uplink}
