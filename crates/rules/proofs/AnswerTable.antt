@@ -50,11 +50,13 @@ module _ (p : List ℕ) where
   unfolding rowsGtp6D gtp6Rows messageRows gPduRows innerRows header
   gtp6-refusals e path = refl
 
-  pub e6-refusals : (e : List ℕ) → refusals (decideE6 e p .rows) ≡ icmp 5 0 0 0 ∷ icmp 7 4 0 43 ∷ icmp 8 4 4 (upperAt p) ∷ icmp 15 0 0 0 ∷ []
+  pub e6-refusals : (e : List ℕ)
+      → refusals (decideE6 e p .rows) ≡ icmp 5 0 0 0 ∷ icmp 7 4 0 43 ∷ icmp 8 4 4 (upperAt p) ∷ icmp 15 0 0 0 ∷ []
   unfolding rowsE6 e6Rows header
   e6-refusals e = refl
 
-  pub e4-refusals : (e : List ℕ) → refusals (decideE4 e p .rows) ≡ icmp 5 0 0 0 ∷ icmp 7 4 0 43 ∷ icmp 8 4 4 (upperAt p) ∷ icmp 15 0 0 0 ∷ []
+  pub e4-refusals : (e : List ℕ)
+      → refusals (decideE4 e p .rows) ≡ icmp 5 0 0 0 ∷ icmp 7 4 0 43 ∷ icmp 8 4 4 (upperAt p) ∷ icmp 15 0 0 0 ∷ []
   unfolding rowsE4 e4Rows header
   e4-refusals e = refl
 
@@ -80,12 +82,14 @@ pub record Tabled (refusalOf : ℕ → Refusal) (k : ℕ) (rs : List Row) : Type
   pub order : inPlace k rs ≡ true
   pub each : EachProper refusalOf rs
 
-pub verdict-proper : (refusalOf : ℕ → Refusal) (rs : List Row) (ρ : Refusal) → EachProper refusalOf rs → verdict rs ≡ Refuse ρ → Proper refusalOf ρ
+pub verdict-proper : (refusalOf : ℕ → Refusal) (rs : List Row) (ρ : Refusal)
+    → EachProper refusalOf rs → verdict rs ≡ Refuse ρ → Proper refusalOf ρ
 unfolding verdict
 verdict-proper refusalOf [] ρ a h = let z : _≡_ {A = ℕ} 0 1 = cc in absurd (omega arith)
 verdict-proper refusalOf (r ∷ rs) ρ a h = go (any (r .tests)) h (verdict-proper refusalOf rs ρ (a .1))
   where
-    go : (b : Bool) → cond b (Refuse (r .refusal)) (verdict rs) ≡ Refuse ρ → (verdict rs ≡ Refuse ρ → Proper refusalOf ρ) → Proper refusalOf ρ
+    go : (b : Bool) → cond b (Refuse (r .refusal)) (verdict rs) ≡ Refuse ρ → (verdict rs ≡ Refuse ρ → Proper refusalOf ρ)
+        → Proper refusalOf ρ
     go true h ih = let q : r .refusal ≡ ρ = cc in rw q at (a .0)
     go false h ih = ih h
 
@@ -93,12 +97,16 @@ verdict-proper refusalOf (r ∷ rs) ρ a h = go (any (r .tests)) h (verdict-prop
 pub entry-cases : (P : Decision → Type 0) (t e p : List ℕ) → P (decideWaypoint p) → P (decideD e (policyAt t (Entry.policy e)) p)
     → P (decideDi e (policyAt t (Entry.policy e)) p) → P (decideE6 e p) → P (decideE4 e p) → P (decideEntry t e p)
 unfolding decideEntry
-entry-cases P t e p w d i s f = go (eqb (Entry.behaviour e) end) (eqb (Entry.behaviour e) endMGtp6D) (eqb (Entry.behaviour e) endMGtp6DDi) (eqb (Entry.behaviour e) endMGtp6E)
+entry-cases P t e p w d i s f = go (eqb b end) (eqb b endMGtp6D) (eqb b endMGtp6DDi) (eqb b endMGtp6E)
   where
+    b : ℕ
+    b = Entry.behaviour e
+
     y : List ℕ
     y = policyAt t (Entry.policy e)
 
-    go : (isEnd isD isDi isE6 : Bool) → P (cond isEnd (decideWaypoint p) (cond isD (decideD e y p) (cond isDi (decideDi e y p) (cond isE6 (decideE6 e p) (decideE4 e p)))))
+    go : (isEnd isD isDi isE6 : Bool)
+        → P (cond isEnd (decideWaypoint p) (cond isD (decideD e y p) (cond isDi (decideDi e y p) (cond isE6 (decideE6 e p) (decideE4 e p)))))
     go true isD isDi isE6 = w
     go false true isDi isE6 = d
     go false false true isE6 = i

@@ -9,7 +9,8 @@ use Rattle.rules.specs.Match.{matchEntry, matchRule}
 use Rattle.rules.specs.Answer.{plain, roomRow, verdict, Decision, Sent, Refused, after, unless, outcome, inRoom, settle}
 use Rattle.rules.specs.Header.{header}
 use Rattle.rules.specs.D4.{header4, atD4}
-use Rattle.rules.specs.Calls.{atEntry, decideFoundEntry, decideFoundRule, atFoundEntry, atFoundRule, frontRows6, frontRows4, decide6, decide4, rows6, rows4, translate6, translate4}
+use Rattle.rules.specs.Calls.{atEntry, decideFoundEntry, decideFoundRule, atFoundEntry, atFoundRule, frontRows6}
+use Rattle.rules.specs.Calls.{frontRows4, decide6, decide4, rows6, rows4, translate6, translate4}
 use Rattle.rules.specs.declared.Verdict.{Verdict}
 use Rattle.rules.specs.declared.Verdict.the-variants.{Pass, Refuse}
 use Rattle.rules.specs.declared.Found.the-variants.{At, Nothing}

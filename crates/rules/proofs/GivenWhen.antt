@@ -32,8 +32,10 @@ use Rattle.rules.specs.Di.{diPath, diPacket, decideDi}
 use Rattle.rules.specs.E6.{e6Carried, e6Packet, e6Rows, rowsE6, decideE6}
 use Rattle.rules.specs.E4.{e4Carried, e4Packet, e4Rows, rowsE4, decideE4}
 use Rattle.rules.specs.D4.{header4, malformed4, badHeader4, d4Packet, gtp4Rows, rowsD4, decideD4}
-use Rattle.rules.specs.Calls.{unsoundRow, nothing, decideEntry, decideFoundEntry, decideFoundRule, frontRows6, frontRows4, rows6, rows4}
-use Rattle.rules.specs.Refused.{upper, behind, NoEntry, NoRule, GivenWaypoint, GivenGtp6D, GivenE6, GivenE4, GivenD4, GivenAtEntry, Given6, Given4}
+use Rattle.rules.specs.Calls.{unsoundRow, nothing, decideEntry, decideFoundEntry, decideFoundRule}
+use Rattle.rules.specs.Calls.{frontRows6, frontRows4, rows6, rows4}
+use Rattle.rules.specs.Refused.{upper, behind, NoEntry, NoRule, GivenWaypoint, GivenGtp6D}
+use Rattle.rules.specs.Refused.{GivenE6, GivenE4, GivenD4, GivenAtEntry, Given6, Given4}
 use Rattle.rules.specs.declared.Found.{Found}
 use Rattle.rules.specs.declared.Found.the-variants.{At, Nothing}
 use Rattle.rules.proofs.SoundTables.{sound-table}
@@ -52,7 +54,8 @@ use Rattle.rules.proofs.FarE6.{e6-length}
 use Rattle.rules.proofs.FarE4.{e4-length}
 use Rattle.rules.proofs.SentFields.{e6Carried-valid, e4Carried-valid}
 use Rattle.rules.proofs.Fields.{waypoint-written}
-use Rattle.rules.proofs.Refusals.{row-2, row-2-ipv4, row-3, row-5, row-5-e6, row-6, row-7, row-7-e6, row-7-waypoint, row-8-waypoint, row-8-session, row-8, row-9, row-10, row-11, row-12, row-13, row-14}
+use Rattle.rules.proofs.Refusals.{row-2, row-2-ipv4, row-3, row-5, row-5-e6, row-6, row-7, row-7-e6, row-7-waypoint, row-8-waypoint}
+use Rattle.rules.proofs.Refusals.{row-8-session, row-8, row-9, row-10, row-11, row-12, row-13, row-14}
 
 -- a limit and a number said otherwise
 over-as : (a b c : ℕ) → b ≡ c → Exactly (ltb a b || false) (a < c)

@@ -26,7 +26,8 @@ use Rattle.rules.specs.Di.{diPath, diPacket, atDi}
 use Rattle.rules.specs.E6.{e6Carried, e6Packet, rowsE6, atE6}
 use Rattle.rules.specs.E4.{startBehind, e4Carried, e4TotalLength, e4Packet, e4Rows, rowsE4, atE4}
 use Rattle.rules.specs.D4.{header4, d4Packet, rowsD4, atD4}
-use Rattle.rules.specs.Calls.{frontRows6, frontRows4, atFoundEntry, atFoundRule, decide6, decide4, rows6, rows4, translate6, translate4}
+use Rattle.rules.specs.Calls.{frontRows6, frontRows4, atFoundEntry, atFoundRule, decide6}
+use Rattle.rules.specs.Calls.{decide4, rows6, rows4, translate6, translate4}
 use Rattle.rules.specs.Written.{WrittenWaypoint, WrittenD, WrittenDi, WrittenE6, WrittenE4, WrittenD4}
 use Rattle.rules.specs.Sent.{SentAtEntry}
 use Rattle.rules.specs.declared.Found.{Found}
