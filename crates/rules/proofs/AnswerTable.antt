@@ -106,8 +106,8 @@ entry-cases P t e p w d i s f = go (eqb b end) (eqb b endMGtp6D) (eqb b endMGtp6
     y : List ℕ
     y = policyAt t (Entry.policy e)
 
-    go : (isEnd isD isDi isE6 : Bool)
-        → P (cond isEnd (decideWaypoint p) (cond isD (decideD e y p) (cond isDi (decideDi e y p) (cond isE6 (decideE6 e p) (decideE4 e p)))))
+    go : (isEnd isD isDi isE6 : Bool) → P (cond isEnd (decideWaypoint p)
+        (cond isD (decideD e y p) (cond isDi (decideDi e y p) (cond isE6 (decideE6 e p) (decideE4 e p)))))
     go true isD isDi isE6 = w
     go false true isDi isE6 = d
     go false false true isE6 = i

@@ -31,10 +31,6 @@ pub only-not : (b : Bool) (P : Type 0) → Exactly b P → Exactly (not b || fal
 only-not true P (f, g) = (λ h. absurd (true≢false (sym h)), λ n. absurd (n (f refl)))
 only-not false P (f, g) = (λ h p. true≢false (sym (g p)), λ n. refl)
 
--- where the statement is said otherwise
-pub exactly-as : (b : Bool) (P Q : Type 0) → (P → Q) → (Q → P) → Exactly b P → Exactly b Q
-exactly-as b P Q f g (h, k) = (λ e. f (h e), λ q. k (g q))
-
 -- SEVERAL
 
 -- each of some tests leads to a statement

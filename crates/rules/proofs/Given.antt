@@ -41,7 +41,13 @@ sent-read x = record { number = omega arith; icmpType = omega arith; icmpCode = 
 pub refused-read : (r : Refusal) → r .number < 256 → r .icmpType < 256 → r .icmpCode < 256 → r .pointer < 65536
     → ReadBack (packed (Refused r)) (r .number) (r .icmpType) (r .icmpCode) (r .pointer) 0
 unfolding packed
-refused-read r hn ht hc hp = record { number = omega arith; icmpType = omega arith; icmpCode = omega arith; pointer = omega arith; size = omega arith }
+refused-read r hn ht hc hp = record {
+  number = omega arith;
+  icmpType = omega arith;
+  icmpCode = omega arith;
+  pointer = omega arith;
+  size = omega arith;
+}
 
 -- ICMP fields that fit their octets
 abbrev Fits : Refusal → Type 0
@@ -63,7 +69,8 @@ icmp-fits at n h = go (eqb n 6) (eqb n 7) (eqb n 8)
     go false false true = omega arith
     go false false false = omega arith
 
-listed : (refusalOf : ℕ → Refusal) → ((n : ℕ) → Fits (refusalOf n)) → (d : Decision) → EachProper refusalOf (d .rows) → Listed refusalOf (outcome d)
+listed : (refusalOf : ℕ → Refusal) → ((n : ℕ) → Fits (refusalOf n)) → (d : Decision) → EachProper refusalOf (d .rows)
+    → Listed refusalOf (outcome d)
 listed refusalOf fits d each = go (verdict (d .rows)) refl
   where
     go : (v : Verdict) → verdict (d .rows) ≡ v → Listed refusalOf (after v (Sent (d .packet)))
@@ -77,7 +84,9 @@ listed refusalOf fits d each = go (verdict (d .rows)) refl
 
 pub listed6 : (p t : List ℕ) (room : ℕ) → Octets p → Listed (withIcmp (upperAt p)) (translate6 p t room)
 unfolding translate6 rows6
-listed6 p t room o = listed (withIcmp (upperAt p)) (λ n. icmp-fits (upperAt p) n (upper-fits p o)) (inRoom room (decide6 p t)) (tabled6 p t room .each)
+listed6 p t room o =
+    let at = upperAt p in
+    listed (withIcmp at) (λ n. icmp-fits at n (upper-fits p o)) (inRoom room (decide6 p t)) (tabled6 p t room .each)
 
 pub listed4 : (p t : List ℕ) (room : ℕ) → Listed withoutIcmp (translate4 p t room)
 unfolding translate4 rows4
@@ -93,7 +102,9 @@ leaves (Sent y) b room =
     record {
       size = splice-length b 0 y (length y) refl l;
       refused = λ r e. let z : _≡_ {A = ℕ} 0 1 = cc in absurd (omega arith);
-      sent = λ x e. let q : y ≡ x = cc in subst (λ (w : List ℕ). window (splice b 0 y) 0 (length w) ≡ w) q (splice-window b 0 y (length y) refl l);
+      sent = λ x e.
+          let q : y ≡ x = cc in
+          subst (λ (w : List ℕ). window (splice b 0 y) 0 (length w) ≡ w) q (splice-window b 0 y (length y) refl l);
       others = λ x e i h. let q : length x ≡ length y = cc in splice-other b 0 y (length y) refl l i (λ k. omega arith);
     }
 leaves (Refused r) b room = record {

@@ -132,7 +132,8 @@ unfolding frontRows6
 sent6-written p t room x op ot h =
     let to = Ipv6.destination p in
     let rest = atFoundEntry t p (matchEntry t to) in
-    let (n, k) = unless-sent (frontRows6 t (header p)) rest x (sent-settle room (unless (frontRows6 t (header p)) rest) x (sym (settled6 p t room) ∙ h)) in
+    let rows = frontRows6 t (header p) in
+    let (n, k) = unless-sent rows rest x (sent-settle room (unless rows rest) x (sym (settled6 p t room) ∙ h)) in
     found (not-false (sound t) (n .0 .0)) (n .1 .0) (matchEntry t to) refl k
   where
     found : sound t ≡ true → Clear (malformed (header p)) → (f : Found) → matchEntry t (Ipv6.destination p) ≡ f → atFoundEntry t p f ≡ Sent x
@@ -163,7 +164,8 @@ unfolding frontRows4
 sent4-written p t room x op h =
     let to = Ipv4.destination p in
     let rest = atFoundRule t p (matchRule t to) in
-    let (n, k) = unless-sent (frontRows4 t (header4 p)) rest x (sent-settle room (unless (frontRows4 t (header4 p)) rest) x (sym (settled4 p t room) ∙ h)) in
+    let rows = frontRows4 t (header4 p) in
+    let (n, k) = unless-sent rows rest x (sent-settle room (unless rows rest) x (sym (settled4 p t room) ∙ h)) in
     found (not-false (sound t) (n .0 .0)) (matchRule t to) refl k
   where
     found : sound t ≡ true → (f : Found) → matchRule t (Ipv4.destination p) ≡ f → atFoundRule t p f ≡ Sent x

@@ -63,12 +63,14 @@ atD datagram = answer (plain6 17 gateway6 datagram)
 abbrev pub tableEither : List ℕ
 tableEither =
     Samples.header 1 0 1
-    (69 ∷ 48 ∷ 64 ∷ 0 ∷ 3 ∷ 0 ∷ 0 ∷ 0 ∷ 0 ∷ 0 ∷ put16 2152 (zeros 4 ++ (network 0xa ++ (sidOf 0x63 ++ zeros 16))) ++ Samples.policy (sidOf 1 ∷ []))
+    (69 ∷ 48 ∷ 64 ∷ 0 ∷ 3 ∷ 0 ∷ 0 ∷ 0 ∷ 0 ∷ 0 ∷ put16 2152 (zeros 4 ++ (network 0xa ++ (sidOf 0x63 ++ zeros 16)))
+    ++ Samples.policy (sidOf 1 ∷ []))
 
 abbrev pub either : (inner : List ℕ) → ℕ
 either inner =
     let size = length inner in
-    numberOf (translate6 (plain6 17 gateway6 (message 2152 (24 + size) 0x34 255 (8 + size) (0 ∷ 0 ∷ 0 ∷ 0x85 ∷ 1 ∷ 0 ∷ 0x49 ∷ 0 ∷ inner))) tableEither 300)
+    let datagram = message 2152 (24 + size) 0x34 255 (8 + size) (0 ∷ 0 ∷ 0 ∷ 0x85 ∷ 1 ∷ 0 ∷ 0x49 ∷ 0 ∷ inner) in
+    numberOf (translate6 (plain6 17 gateway6 datagram) tableEither 300)
 
 -- an IPv4 packet with its first octet, total length, octets 6 and 7, protocol, and what is added to the right checksum
 abbrev pub front4 : (first total flags offset protocol : ℕ) (rest : List ℕ) → List ℕ
