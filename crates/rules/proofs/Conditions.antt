@@ -8,7 +8,8 @@ use native.Mathlib.Omega.{arith}
 use native.Mathlib.Decide.{ℕ-discrete}
 use borrow.Author.Tests.{leb-true, ltb-true, eqb-true, not-true, le-leb, lt-ltb, eq-eqb}
 use Rattle.rules.specs.Table.{entries, rules, policies, entryAt, ruleAt, policyAt}
-use Rattle.rules.specs.Sound.{every, all, whereUsed, headerSound, entrySound, ruleSound, policySound, sameEntryPrefix, sameRulePrefix, fresh, distinct, soundWithin}
+use Rattle.rules.specs.Sound.{every, all, whereUsed, headerSound, entrySound, ruleSound, policySound}
+use Rattle.rules.specs.Sound.{sameEntryPrefix, sameRulePrefix, fresh, distinct, soundWithin}
 
 pub and-left : (a b : Bool) → a && b ≡ true → a ≡ true
 and-left true b h = refl

@@ -1,15 +1,16 @@
 -- What a call decides by its one list of rows is what it decides part by part: rows in front, the record that is found, the room.
 use mathlib.Core.Path.{_≡_, refl, sym, ap, _∙_}
-use mathlib.Core.List.{List, [], _∷_, _++_}
+use mathlib.Core.List.{List, [], _∷_}
 use Prim.Native.Nat.{ℕ}
 use Rattle.rules.specs.Table.{entryAt, ruleAt}
 use Rattle.rules.specs.Ipv6 as Ipv6
 use Rattle.rules.specs.Ipv4 as Ipv4
 use Rattle.rules.specs.Match.{matchEntry, matchRule}
-use Rattle.rules.specs.Answer.{Row, plain, roomRow, verdict, Decision, Outcome, Sent, Refused, after, unless, outcome, inRoom, settle}
+use Rattle.rules.specs.Answer.{plain, roomRow, verdict, Decision, Sent, Refused, after, unless, outcome, inRoom, settle}
 use Rattle.rules.specs.Header.{header}
 use Rattle.rules.specs.D4.{header4, atD4}
-use Rattle.rules.specs.Calls.{atEntry, decideFoundEntry, decideFoundRule, atFoundEntry, atFoundRule, frontRows6, frontRows4, decide6, decide4, rows6, rows4, translate6, translate4}
+use Rattle.rules.specs.Calls.{atEntry, decideFoundEntry, decideFoundRule, atFoundEntry, atFoundRule, frontRows6}
+use Rattle.rules.specs.Calls.{frontRows4, decide6, decide4, rows6, rows4, translate6, translate4}
 use Rattle.rules.specs.declared.Verdict.{Verdict}
 use Rattle.rules.specs.declared.Verdict.the-variants.{Pass, Refuse}
 use Rattle.rules.specs.declared.Found.the-variants.{At, Nothing}

@@ -1,12 +1,12 @@
 -- How it is shown that a test, or one of several, holds exactly where a statement does.
-use mathlib.Core.Path.{_≡_, refl, sym, _∙_}
+use mathlib.Core.Path.{_≡_, refl, sym}
 use mathlib.Core.Logic.{_≢_}
 use mathlib.Core.Bool.{Bool, true, false, not, _||_, true≢false}
 use mathlib.Core.List.{List, [], _∷_}
-use Prim.Native.Nat.{ℕ, zero, suc, _≤_, _<_}
-use lib.Dec.{eqb, leb, ltb}
+use Prim.Native.Nat.{ℕ, zero, suc, _<_}
+use lib.Dec.{eqb, ltb}
 use lib.ListN.{drop, getD}
-use borrow.Author.Tests.{ltb-true, leb-true, eqb-true, eqb-false, not-true, lt-ltb, le-leb, eq-eqb, ne-eqb}
+use borrow.Author.Tests.{ltb-true, eqb-false, not-true, lt-ltb, ne-eqb}
 use Rattle.rules.specs.Exactly.{Exactly}
 use Rattle.rules.specs.Answer.{differs, given, any}
 
@@ -30,10 +30,6 @@ over a b = only (ltb a b) (a < b) (ltb-true a b) (lt-ltb a b)
 pub only-not : (b : Bool) (P : Type 0) → Exactly b P → Exactly (not b || false) (P → ⊥)
 only-not true P (f, g) = (λ h. absurd (true≢false (sym h)), λ n. absurd (n (f refl)))
 only-not false P (f, g) = (λ h p. true≢false (sym (g p)), λ n. refl)
-
--- where the statement is said otherwise
-pub exactly-as : (b : Bool) (P Q : Type 0) → (P → Q) → (Q → P) → Exactly b P → Exactly b Q
-exactly-as b P Q f g (h, k) = (λ e. f (h e), λ q. k (g q))
 
 -- SEVERAL
 

@@ -9,7 +9,6 @@ use Rattle.rules.specs.Octets.{octet}
 use Rattle.rules.specs.Assigned.{udpProtocol, routingHeader, endMGtp6E}
 use Rattle.rules.specs.Table.{entryAt}
 use Rattle.rules.specs.Entry as Entry
-use Rattle.rules.specs.Ipv6 as Ipv6
 use Rattle.rules.specs.Srh.{segment, srh}
 use Rattle.rules.specs.Srv6.{srv6Payload}
 use Rattle.rules.specs.Args.{Args, argsAt, withArgs}

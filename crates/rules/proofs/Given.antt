@@ -1,15 +1,15 @@
 -- The two calls: of the numbers that apply the first is given; every answer is one of document 01's list; what the output holds afterwards.
 use mathlib.Core.Path.{_≡_, refl, sym, ap, subst}
 use mathlib.Core.Bool.{Bool, true, false, cond}
-use mathlib.Core.List.{List, [], _∷_, _++_}
-use Prim.Native.Nat.{ℕ, _+_, _-_, _*_, _/_, _%_, _≤_, _<_}
+use mathlib.Core.List.{List}
+use Prim.Native.Nat.{ℕ, _+_, _*_, _≤_, _<_}
 use native.Mathlib.Omega.{arith}
 use lib.Dec.{eqb}
 use lib.ListN.{length}
-use Rattle.rules.specs.Octets.{Octets, octet, window, splice}
+use Rattle.rules.specs.Octets.{Octets, window, splice}
 use Rattle.rules.specs.Ipv6 as Ipv6
 use Rattle.rules.specs.Srh as Srh
-use Rattle.rules.specs.Answer.{Row, verdict, applies, Decision, Outcome, Sent, Refused, after, outcome, inRoom, overlay, packed}
+use Rattle.rules.specs.Answer.{verdict, applies, Decision, Outcome, Sent, Refused, after, outcome, inRoom, overlay, packed}
 use Rattle.rules.specs.Calls.{decide6, decide4, rows6, rows4, translate6, translate4}
 use Rattle.rules.specs.Refused.{upperAt}
 use Rattle.rules.specs.Given.{GoesBy, icmp, withoutIcmp, withIcmp, ReadBack, Listed, Leaves}
@@ -17,7 +17,7 @@ use Rattle.rules.specs.declared.Refusal.{Refusal}
 use Rattle.rules.specs.declared.Verdict.{Verdict}
 use Rattle.rules.specs.declared.Verdict.the-variants.{Pass, Refuse}
 use Rattle.rules.proofs.Smallest.{goes-by}
-use Rattle.rules.proofs.AnswerTable.{Proper, Tabled, EachProper, verdict-proper, tabled6, tabled4}
+use Rattle.rules.proofs.AnswerTable.{EachProper, verdict-proper, tabled6, tabled4}
 use Rattle.rules.proofs.Splices.{splice-length, splice-window, splice-other}
 use Rattle.rules.proofs.SentFields.{sent6-size, sent4-size}
 
@@ -41,7 +41,13 @@ sent-read x = record { number = omega arith; icmpType = omega arith; icmpCode = 
 pub refused-read : (r : Refusal) → r .number < 256 → r .icmpType < 256 → r .icmpCode < 256 → r .pointer < 65536
     → ReadBack (packed (Refused r)) (r .number) (r .icmpType) (r .icmpCode) (r .pointer) 0
 unfolding packed
-refused-read r hn ht hc hp = record { number = omega arith; icmpType = omega arith; icmpCode = omega arith; pointer = omega arith; size = omega arith }
+refused-read r hn ht hc hp = record {
+  number = omega arith;
+  icmpType = omega arith;
+  icmpCode = omega arith;
+  pointer = omega arith;
+  size = omega arith;
+}
 
 -- ICMP fields that fit their octets
 abbrev Fits : Refusal → Type 0
@@ -63,7 +69,8 @@ icmp-fits at n h = go (eqb n 6) (eqb n 7) (eqb n 8)
     go false false true = omega arith
     go false false false = omega arith
 
-listed : (refusalOf : ℕ → Refusal) → ((n : ℕ) → Fits (refusalOf n)) → (d : Decision) → EachProper refusalOf (d .rows) → Listed refusalOf (outcome d)
+listed : (refusalOf : ℕ → Refusal) → ((n : ℕ) → Fits (refusalOf n)) → (d : Decision) → EachProper refusalOf (d .rows)
+    → Listed refusalOf (outcome d)
 listed refusalOf fits d each = go (verdict (d .rows)) refl
   where
     go : (v : Verdict) → verdict (d .rows) ≡ v → Listed refusalOf (after v (Sent (d .packet)))
@@ -77,7 +84,9 @@ listed refusalOf fits d each = go (verdict (d .rows)) refl
 
 pub listed6 : (p t : List ℕ) (room : ℕ) → Octets p → Listed (withIcmp (upperAt p)) (translate6 p t room)
 unfolding translate6 rows6
-listed6 p t room o = listed (withIcmp (upperAt p)) (λ n. icmp-fits (upperAt p) n (upper-fits p o)) (inRoom room (decide6 p t)) (tabled6 p t room .each)
+listed6 p t room o =
+    let at = upperAt p in
+    listed (withIcmp at) (λ n. icmp-fits at n (upper-fits p o)) (inRoom room (decide6 p t)) (tabled6 p t room .each)
 
 pub listed4 : (p t : List ℕ) (room : ℕ) → Listed withoutIcmp (translate4 p t room)
 unfolding translate4 rows4
@@ -93,7 +102,9 @@ leaves (Sent y) b room =
     record {
       size = splice-length b 0 y (length y) refl l;
       refused = λ r e. let z : _≡_ {A = ℕ} 0 1 = cc in absurd (omega arith);
-      sent = λ x e. let q : y ≡ x = cc in subst (λ (w : List ℕ). window (splice b 0 y) 0 (length w) ≡ w) q (splice-window b 0 y (length y) refl l);
+      sent = λ x e.
+          let q : y ≡ x = cc in
+          subst (λ (w : List ℕ). window (splice b 0 y) 0 (length w) ≡ w) q (splice-window b 0 y (length y) refl l);
       others = λ x e i h. let q : length x ≡ length y = cc in splice-other b 0 y (length y) refl l i (λ k. omega arith);
     }
 leaves (Refused r) b room = record {

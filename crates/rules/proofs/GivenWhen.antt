@@ -1,15 +1,14 @@
 -- Each number of each call applies exactly where Refused.antt says that it is given.
 use mathlib.Core.Path.{_≡_, refl, sym, ap, _∙_, subst}
-use mathlib.Core.Logic.{_≢_}
 use mathlib.Core.Bool.{Bool, true, false, not, _||_, true≢false}
 use mathlib.Core.List.{List, [], _∷_, _++_}
 use Prim.Native.Nat.{ℕ, _+_, _-_, _*_, _≤_, _<_}
 use native.Mathlib.Omega.{arith}
-use lib.Dec.{eqb, ltb}
+use lib.Dec.{ltb}
 use lib.ListN.{length, drop}
 use borrow.Author.Tests.{eqb-true, eq-eqb}
 use Rattle.rules.specs.Exactly.{Exactly}
-use Rattle.rules.specs.Octets.{Octets, number}
+use Rattle.rules.specs.Octets.{Octets}
 use Rattle.rules.specs.Prefix.{under, firstBits}
 use Rattle.rules.specs.Table.{entries, rules, entryAt, ruleAt, policyAt}
 use Rattle.rules.specs.Entry as Entry
@@ -33,8 +32,10 @@ use Rattle.rules.specs.Di.{diPath, diPacket, decideDi}
 use Rattle.rules.specs.E6.{e6Carried, e6Packet, e6Rows, rowsE6, decideE6}
 use Rattle.rules.specs.E4.{e4Carried, e4Packet, e4Rows, rowsE4, decideE4}
 use Rattle.rules.specs.D4.{header4, malformed4, badHeader4, d4Packet, gtp4Rows, rowsD4, decideD4}
-use Rattle.rules.specs.Calls.{unsoundRow, nothing, decideEntry, decideFoundEntry, decideFoundRule, frontRows6, frontRows4, rows6, rows4}
-use Rattle.rules.specs.Refused.{upper, upperAt, behind, NoEntry, NoRule, GivenWaypoint, GivenDatagram, GivenGtp6D, GivenE6, GivenE4, GivenD4, GivenAtEntry, Given6, Given4}
+use Rattle.rules.specs.Calls.{unsoundRow, nothing, decideEntry, decideFoundEntry, decideFoundRule}
+use Rattle.rules.specs.Calls.{frontRows6, frontRows4, rows6, rows4}
+use Rattle.rules.specs.Refused.{upper, behind, NoEntry, NoRule, GivenWaypoint, GivenGtp6D}
+use Rattle.rules.specs.Refused.{GivenE6, GivenE4, GivenD4, GivenAtEntry, Given6, Given4}
 use Rattle.rules.specs.declared.Found.{Found}
 use Rattle.rules.specs.declared.Found.the-variants.{At, Nothing}
 use Rattle.rules.proofs.SoundTables.{sound-table}
@@ -42,18 +43,19 @@ use Rattle.rules.proofs.Windows.{window-length}
 use Rattle.rules.proofs.Longest.{Best, longest-best}
 use Rattle.rules.proofs.Tables.{found-d, found-di, found-rule}
 use Rattle.rules.proofs.NearGtp6.{carried6-valid}
-use Rattle.rules.proofs.NearD4.{carried4-valid, carried4-source}
+use Rattle.rules.proofs.NearD4.{carried4-valid}
 use Rattle.rules.proofs.Paths.{addressesAt-length}
 use Rattle.rules.proofs.PathFields.{path-length, d-written, di-written}
 use Rattle.rules.proofs.D4Fields.{d4-written}
 use Rattle.rules.proofs.Smallest.{early}
 use Rattle.rules.proofs.AnswerTable.{entry-tabled}
-use Rattle.rules.proofs.Exact.{only, only-not, over, exactly-as}
+use Rattle.rules.proofs.Exact.{only, only-not, over}
 use Rattle.rules.proofs.FarE6.{e6-length}
 use Rattle.rules.proofs.FarE4.{e4-length}
 use Rattle.rules.proofs.SentFields.{e6Carried-valid, e4Carried-valid}
 use Rattle.rules.proofs.Fields.{waypoint-written}
-use Rattle.rules.proofs.Refusals.{row-2, row-2-ipv4, row-3, row-5, row-5-e6, row-6, row-7, row-7-e6, row-7-waypoint, row-8-waypoint, row-8-session, row-8, row-9, row-10, row-11, row-12, row-13, row-14}
+use Rattle.rules.proofs.Refusals.{row-2, row-2-ipv4, row-3, row-5, row-5-e6, row-6, row-7, row-7-e6, row-7-waypoint, row-8-waypoint}
+use Rattle.rules.proofs.Refusals.{row-8-session, row-8, row-9, row-10, row-11, row-12, row-13, row-14}
 
 -- a limit and a number said otherwise
 over-as : (a b c : ℕ) → b ≡ c → Exactly (ltb a b || false) (a < c)
@@ -106,7 +108,9 @@ module _ (p t : List ℕ) (room : ℕ) where
     row7 = row-7-e6 p;
     row8 = row-8-session (Entry.session e) (upper p);
     row15 = over 65535 (24 + length (behind p));
-    row16 = over-as room (length (e6Packet e (e6Carried e p))) (64 + length (behind p)) (e6-length e (e6Carried e p) (e6Carried-valid e p o));
+    row16 =
+        let c = e6Carried e p in
+        over-as room (length (e6Packet e c)) (64 + length (behind p)) (e6-length e c (e6Carried-valid e p o));
     never = (refl, (refl, (refl, (refl, (refl, (refl, (refl, (refl, tt))))))));
   }
 
@@ -117,19 +121,25 @@ module _ (p t : List ℕ) (room : ℕ) where
     row7 = row-7 p;
     row8 = row-8-session (Entry.session e) (upper p);
     row15 = over 65535 (44 + length (behind p));
-    row16 = over-as room (length (e4Packet e (e4Carried e p))) (44 + length (behind p)) (e4-length e (e4Carried e p) (e4Carried-valid e p o) (window-length (Ipv6.source p) (Entry.q e) 4));
+    row16 =
+        let c = e4Carried e p in
+        let l = window-length (Ipv6.source p) (Entry.q e) 4 in
+        over-as room (length (e4Packet e c)) (44 + length (behind p)) (e4-length e c (e4Carried-valid e p o) l);
     never = (refl, (refl, (refl, (refl, (refl, (refl, (refl, (refl, tt))))))));
   }
 
   -- the rows of the call, where an entry is found
-  rows-found : (i : ℕ) (d : Decision) → matchEntry t (Ipv6.destination p) ≡ At i → decideEntry t (entryAt t i) p ≡ d → rows6 p t room ≡ rowsWith d
+  rows-found : (i : ℕ) (d : Decision) → matchEntry t (Ipv6.destination p) ≡ At i → decideEntry t (entryAt t i) p ≡ d
+      → rows6 p t room ≡ rowsWith d
   unfolding rows6 frontRows6 decideFoundEntry
-  rows-found i d m e =
-      ap (λ (f : Found). inRoom room (record { rows = frontRows6 t (header p) ++ decideFoundEntry t p f .rows; packet = decideFoundEntry t p f .packet }) .rows) m
-      ∙ ap rowsWith e
+  rows-found i d m e = ap rowsAt m ∙ ap rowsWith e
+    where
+      rowsAt : Found → List Row
+      rowsAt f = let d = decideFoundEntry t p f in (frontRows6 t (header p) ++ d .rows) ++ roomRow room (d .packet) ∷ []
 
   module _ (o : Octets p) (i : ℕ) (s : sound t ≡ true) (m : matchEntry t (Ipv6.destination p) ≡ At i) where
-    there : (P : (ℕ → Bool) → Type 0) (d : Decision) → decideEntry t (entryAt t i) p ≡ d → P (λ n. applies n (rowsWith d)) → P (λ n. applies n (rows6 p t room))
+    there : (P : (ℕ → Bool) → Type 0) (d : Decision) → decideEntry t (entryAt t i) p ≡ d
+        → P (λ n. applies n (rowsWith d)) → P (λ n. applies n (rows6 p t room))
     there P d e h = subst (λ (rs : List Row). P (λ n. applies n rs)) (sym (rows-found i d m e)) h
 
     entry-given : GivenAtEntry t (entryAt t i) p room (λ n. applies n (rows6 p t room))
@@ -137,6 +147,7 @@ module _ (p t : List ℕ) (room : ℕ) where
     entry-given =
         let e = entryAt t i in
         let y = policyAt t (Entry.policy e) in
+        let n = Policy.sidCount y in
         let c = carried6 p in
         let v = carried6-valid p o in
         let to = Ipv6.destination p in
@@ -144,14 +155,16 @@ module _ (p t : List ℕ) (room : ℕ) where
           waypoint = λ b. there (GivenWaypoint p room) (decideWaypoint p) (rw b) waypoint-given;
           d = λ b.
               let q = found-d entryLimit t to i s m b .policy in
-              let l : length (dPath y c) ≡ Policy.sidCount y = path-length y 16 (Policy.sidCount y - 1) (lastWithArgs y (c .args)) [] ∙ omega (arith, q .least) in
-              there (GivenGtp6D e p (Policy.sidCount y) room) (decideD e y p) (rw b)
-              (gtp6-given e (dPacket e y c) (dPath y c) (Policy.sidCount y) l (d-written e y c v (q .least) (q .start) .ipv6 .size));
+              let l = path-length y 16 (n - 1) (lastWithArgs y (c .args)) [] in
+              let w = d-written e y c v (q .least) (q .start) in
+              there (GivenGtp6D e p n room) (decideD e y p) (rw b)
+              (gtp6-given e (dPacket e y c) (dPath y c) n (l ∙ omega (arith, q .least)) (w .ipv6 .size));
           di = λ b.
               let q = found-di entryLimit t to i s m b .policy in
-              let l : length (diPath y c) ≡ Policy.sidCount y + 1 = path-length y 16 (Policy.sidCount y - 1) (lastWithArgs y (c .args)) (c .destination ∷ []) ∙ omega (arith, q .least) in
-              there (GivenGtp6D e p (Policy.sidCount y + 1) room) (decideDi e y p) (rw b)
-              (gtp6-given e (diPacket e y c) (diPath y c) (Policy.sidCount y + 1) l (di-written e y c v (q .least) (q .start) .ipv6 .size));
+              let l = path-length y 16 (n - 1) (lastWithArgs y (c .args)) (c .destination ∷ []) in
+              let w = di-written e y c v (q .least) (q .start) in
+              there (GivenGtp6D e p (n + 1) room) (decideDi e y p) (rw b)
+              (gtp6-given e (diPacket e y c) (diPath y c) (n + 1) (l ∙ omega (arith, q .least)) (w .ipv6 .size));
           e6 = λ b. there (GivenE6 e p room) (decideE6 e p) (rw b) (e6-given e o);
           e4 = λ b. there (GivenE4 e p room) (decideE4 e p) (rw b) (e4-given e o);
         }
@@ -166,12 +179,14 @@ best-rule : (t to : List ℕ) → Best (ruleMatches t to) (ruleBits t) (rules t)
 unfolding matchRule
 best-rule t to = longest-best (ruleMatches t to) (ruleBits t) (rules t)
 
-row-4 : (p t : List ℕ) (found : Found) → Best (entryMatches t (Ipv6.destination p)) (entryBits t) (entries t) found → Exactly (nothing found) (NoEntry p t)
+row-4 : (p t : List ℕ) (found : Found) → Best (entryMatches t (Ipv6.destination p)) (entryBits t) (entries t) found
+    → Exactly (nothing found) (NoEntry p t)
 unfolding under firstBits
 row-4 p t Nothing b = (λ h i l e. b i l (eq-eqb _ _ e), λ h. refl)
 row-4 p t (At i) b = (λ h. absurd (true≢false (sym h)), λ n. absurd (n i (b .below) (eqb-true _ _ (b .hit))))
 
-row-4-ipv4 : (p t : List ℕ) (found : Found) → Best (ruleMatches t (Ipv4.destination p)) (ruleBits t) (rules t) found → Exactly (nothing found) (NoRule p t)
+row-4-ipv4 : (p t : List ℕ) (found : Found) → Best (ruleMatches t (Ipv4.destination p)) (ruleBits t) (rules t) found
+    → Exactly (nothing found) (NoRule p t)
 unfolding under firstBits
 row-4-ipv4 p t Nothing b = (λ h k l e. b k l (eq-eqb _ _ e), λ h. refl)
 row-4-ipv4 p t (At k) b = (λ h. absurd (true≢false (sym h)), λ n. absurd (n k (b .below) (eqb-true _ _ (b .hit))))
@@ -209,7 +224,8 @@ given-when6 p t room op ot =
 
 -- OVER IPV4
 
-past-payload : (ws : List (List ℕ)) (inner : List ℕ) (n : ℕ) → length ws ≡ n → 0 < n → pastWaypointsPayload ws inner ≡ 8 + 16 * (n + 1) + length inner
+past-payload : (ws : List (List ℕ)) (inner : List ℕ) (n : ℕ) → length ws ≡ n → 0 < n
+    → pastWaypointsPayload ws inner ≡ 8 + 16 * (n + 1) + length inner
 past-payload [] inner n e h = absurd (omega arith)
 past-payload (w ∷ ws) inner n e h = omega arith
 
@@ -219,7 +235,9 @@ plain-payload (w ∷ ws) inner e = absurd (omega arith)
 
 module _ (r p t : List ℕ) (room : ℕ) where
   abbrev rowsWith4 : List Row
-  rowsWith4 = unsoundRow t ∷ row (malformed4 (header4 p)) 2 ∷ row (badHeader4 (header4 p)) 3 ∷ row (false ∷ []) 4 ∷ inRoom room (decideD4 r p) .rows
+  rowsWith4 =
+      unsoundRow t ∷ row (malformed4 (header4 p)) 2 ∷ row (badHeader4 (header4 p)) 3 ∷ row (false ∷ []) 4
+      ∷ inRoom room (decideD4 r p) .rows
 
   d4-given : Octets p → Rule.p r ≤ 7 → Rule.q r ≤ 12 → GivenD4 r p room (λ n. applies n rowsWith4)
   unfolding rowsD4 gtp4Rows messageRows gPduRows innerRows header4 carried4 carriedBy
@@ -229,6 +247,8 @@ module _ (r p t : List ℕ) (room : ℕ) where
       let n = Rule.waypointCount r in
       let c = carried4 p in
       let w = d4-written r c (carried4-valid p o) (window-length p 12 4) hp hq in
+      let ws = Rule.waypoints r in
+      let payload = pastWaypointsPayload ws inner in
       let ln = addressesAt-length r 48 n in
       record {
         row8 = row-8 u (Ipv4.protocol p);
@@ -240,9 +260,9 @@ module _ (r p t : List ℕ) (room : ℕ) where
           row13 = row-13 u (Rule.direction r);
           row14 = row-14 (Rule.session r) inner;
         };
-        row15Past = λ h. over-as 65535 (pastWaypointsPayload (Rule.waypoints r) inner) (8 + 16 * (n + 1) + length inner) (past-payload (Rule.waypoints r) inner n ln h);
+        row15Past = λ h. over-as 65535 payload (8 + 16 * (n + 1) + length inner) (past-payload ws inner n ln h);
         row16Past = λ h. over-as room (length (d4Packet r c)) (48 + 16 * (n + 1) + length inner) (w .past h .ipv6 .size ∙ omega arith);
-        row15Plain = λ h. over-as 65535 (pastWaypointsPayload (Rule.waypoints r) inner) (length inner) (plain-payload (Rule.waypoints r) inner (ln ∙ h));
+        row15Plain = λ h. over-as 65535 payload (length inner) (plain-payload ws inner (ln ∙ h));
         row16Plain = λ h. over-as room (length (d4Packet r c)) (40 + length inner) (w .plain h .ipv6 .size);
         never = (refl, (refl, (refl, tt)));
       }
@@ -258,7 +278,8 @@ given-when4 p t room op ot =
       row4 = fourth (matchRule t to) (best-rule t to);
       matched = λ s k m.
           let q = found-rule entryLimit t to k (sound-table t ot .1 s) m in
-          subst (λ (rs : List Row). GivenD4 (ruleAt t k) p room (λ n. applies n rs)) (sym (found k m)) (d4-given (ruleAt t k) p t room op (q .p) (q .q));
+          let g = d4-given (ruleAt t k) p t room op (q .p) (q .q) in
+          subst (λ (rs : List Row). GivenD4 (ruleAt t k) p room (λ n. applies n rs)) (sym (found k m)) g;
     }
   where
     fourth : (f : Found) → Best (ruleMatches t (Ipv4.destination p)) (ruleBits t) (rules t) f
@@ -267,4 +288,7 @@ given-when4 p t room op ot =
     fourth (At k) b = only-nothing (At k) (NoRule p t) (row-4-ipv4 p t (At k) b)
 
     found : (k : ℕ) → matchRule t (Ipv4.destination p) ≡ At k → rows4 p t room ≡ rowsWith4 (ruleAt t k) p t room
-    found k m = ap (λ (f : Found). inRoom room (record { rows = frontRows4 t (header4 p) ++ decideFoundRule t p f .rows; packet = decideFoundRule t p f .packet }) .rows) m
+    found k m = ap rowsAt m
+      where
+        rowsAt : Found → List Row
+        rowsAt f = let d = decideFoundRule t p f in (frontRows4 t (header4 p) ++ d .rows) ++ roomRow room (d .packet) ∷ []

@@ -31,6 +31,7 @@ pub mod FarE4
 pub mod NearD4
 pub mod Demand3v4
 pub mod Demand3
+pub mod Computing
 pub mod Samples
 pub mod FaultSamples
 pub mod Worked

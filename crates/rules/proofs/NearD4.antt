@@ -14,7 +14,6 @@ use Rattle.rules.specs.Entry as Entry
 use Rattle.rules.specs.Rule as Rule
 use Rattle.rules.specs.Ipv4 as Ipv4
 use Rattle.rules.specs.Ipv4.{ipv4}
-use Rattle.rules.specs.Gtpu as Gtpu
 use Rattle.rules.specs.Gtpu.{datagramOctets}
 use Rattle.rules.specs.Sound.{sound}
 use Rattle.rules.specs.Match.{matchRule}
@@ -52,7 +51,8 @@ module _ (r p : List ℕ) where
   sent-passed x front ipv4 h =
       let g = datagram (datagramIn4 p) in
       let (n, k) = unless-sent (rowsD4 r p) (Sent (d4Packet r (carried4 p))) x h in
-      let (a, (b, (c, d))) = none-parts (gtp4Rows (header4 p) g) (messageRows g) (gPduRows (Rule.direction r) g) (d4Rows r (carried4 p .inner)) n in
+      let last = d4Rows r (carried4 p .inner) in
+      let (a, (b, (c, d))) = none-parts (gtp4Rows (header4 p) g) (messageRows g) (gPduRows (Rule.direction r) g) last n in
       record { front = front; ipv4 = ipv4; tunnel = a; message = b; gPdu = c; last = d }
 
   passed-sent : Passed r p → atD4 r p ≡ Sent (d4Packet r (carried4 p))
@@ -60,7 +60,8 @@ module _ (r p : List ℕ) where
   passed-sent n =
       let g = datagram (datagramIn4 p) in
       unless-none (rowsD4 r p) (Sent (d4Packet r (carried4 p)))
-      (parts-none (gtp4Rows (header4 p) g) (messageRows g) (gPduRows (Rule.direction r) g) (d4Rows r (carried4 p .inner)) (n .tunnel) (n .message) (n .gPdu) (n .last))
+      (parts-none (gtp4Rows (header4 p) g) (messageRows g) (gPduRows (Rule.direction r) g) (d4Rows r (carried4 p .inner))
+      (n .tunnel) (n .message) (n .gPdu) (n .last))
 
   -- in uplink R is 0
   pub passed-quiet : Passed r p → cond (eqb (Rule.direction r) downlink) 0 (carried4 p .args .reflective) ≡ 0

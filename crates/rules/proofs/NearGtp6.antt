@@ -2,7 +2,7 @@
 use mathlib.Core.Path.{_≡_, refl, sym, ap, _∙_}
 use mathlib.Core.Bool.{cond}
 use mathlib.Core.List.{List, []}
-use Prim.Native.Nat.{ℕ, _+_, _-_}
+use Prim.Native.Nat.{ℕ, _+_}
 use native.Mathlib.Omega.{arith}
 use lib.Dec.{eqb}
 use lib.ListN.{length}
@@ -11,7 +11,6 @@ use Rattle.rules.specs.Octets.{octet, Octets}
 use Rattle.rules.specs.Assigned.{udpProtocol, downlink}
 use Rattle.rules.specs.Entry as Entry
 use Rattle.rules.specs.Ipv6 as Ipv6
-use Rattle.rules.specs.Gtpu as Gtpu
 use Rattle.rules.specs.Gtpu.{datagramOctets}
 use Rattle.rules.specs.Answer.{Sent, outcome}
 use Rattle.rules.specs.Header.{header, malformed}
@@ -34,12 +33,14 @@ pub record Passed (e : List ℕ) (path : List (List ℕ)) (p : List ℕ) : Type 
   pub last : None (gtp6DRows e path (carried6 p .inner))
 
 module _ (e : List ℕ) (path : List (List ℕ)) (made p : List ℕ) where
-  pub sent-passed : (x : List ℕ) → Clear (malformed (header p)) → outcome (decideGtp6D e path made p) ≡ Sent x → Passed e path p × (made ≡ x)
+  pub sent-passed : (x : List ℕ) → Clear (malformed (header p)) → outcome (decideGtp6D e path made p) ≡ Sent x
+      → Passed e path p × (made ≡ x)
   unfolding rowsGtp6D
   sent-passed x front h =
       let g = datagram (datagramIn6 p) in
       let (n, k) = unless-sent (rowsGtp6D e path p) (Sent made) x h in
-      let (a, (b, (c, d))) = none-parts (gtp6Rows (header p) g) (messageRows g) (gPduRows (Entry.direction e) g) (gtp6DRows e path (carried6 p .inner)) n in
+      let last = gtp6DRows e path (carried6 p .inner) in
+      let (a, (b, (c, d))) = none-parts (gtp6Rows (header p) g) (messageRows g) (gPduRows (Entry.direction e) g) last n in
       (record { front = front; tunnel = a; message = b; gPdu = c; last = d }, cc)
 
   pub passed-sent : Passed e path p → outcome (decideGtp6D e path made p) ≡ Sent made
@@ -47,7 +48,8 @@ module _ (e : List ℕ) (path : List (List ℕ)) (made p : List ℕ) where
   passed-sent n =
       let g = datagram (datagramIn6 p) in
       unless-none (rowsGtp6D e path p) (Sent made)
-      (parts-none (gtp6Rows (header p) g) (messageRows g) (gPduRows (Entry.direction e) g) (gtp6DRows e path (carried6 p .inner)) (n .tunnel) (n .message) (n .gPdu) (n .last))
+      (parts-none (gtp6Rows (header p) g) (messageRows g) (gPduRows (Entry.direction e) g) (gtp6DRows e path (carried6 p .inner))
+      (n .tunnel) (n .message) (n .gPdu) (n .last))
 
   -- in uplink R is 0
   pub passed-quiet : Passed e path p → cond (eqb (Entry.direction e) downlink) 0 (carried6 p .args .reflective) ≡ 0

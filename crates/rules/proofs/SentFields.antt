@@ -2,7 +2,7 @@
 use mathlib.Core.Path.{_≡_, refl, sym, _∙_}
 use mathlib.Core.Bool.{true}
 use mathlib.Core.List.{List, [], _∷_}
-use Prim.Native.Nat.{ℕ, _+_, _*_, _/_, _%_, _≤_, _<_}
+use Prim.Native.Nat.{ℕ, _+_, _*_, _/_, _≤_, _<_}
 use native.Mathlib.Omega.{arith}
 use lib.Dec.{ltb}
 use lib.ListN.{length}
@@ -26,10 +26,10 @@ use Rattle.rules.specs.Di.{diPath, diPacket, atDi}
 use Rattle.rules.specs.E6.{e6Carried, e6Packet, rowsE6, atE6}
 use Rattle.rules.specs.E4.{startBehind, e4Carried, e4TotalLength, e4Packet, e4Rows, rowsE4, atE4}
 use Rattle.rules.specs.D4.{header4, d4Packet, rowsD4, atD4}
-use Rattle.rules.specs.Calls.{frontRows6, frontRows4, atFoundEntry, atFoundRule, decide6, decide4, rows6, rows4, translate6, translate4}
+use Rattle.rules.specs.Calls.{frontRows6, frontRows4, atFoundEntry, atFoundRule, decide6}
+use Rattle.rules.specs.Calls.{decide4, rows6, rows4, translate6, translate4}
 use Rattle.rules.specs.Written.{WrittenWaypoint, WrittenD, WrittenDi, WrittenE6, WrittenE4, WrittenD4}
 use Rattle.rules.specs.Sent.{SentAtEntry}
-use Rattle.rules.specs.declared.Refusal.{Refusal}
 use Rattle.rules.specs.declared.Found.{Found}
 use Rattle.rules.specs.declared.Found.the-variants.{At, Nothing}
 use Rattle.rules.proofs.Windows.{window-length, octets-window}
@@ -132,7 +132,8 @@ unfolding frontRows6
 sent6-written p t room x op ot h =
     let to = Ipv6.destination p in
     let rest = atFoundEntry t p (matchEntry t to) in
-    let (n, k) = unless-sent (frontRows6 t (header p)) rest x (sent-settle room (unless (frontRows6 t (header p)) rest) x (sym (settled6 p t room) ∙ h)) in
+    let rows = frontRows6 t (header p) in
+    let (n, k) = unless-sent rows rest x (sent-settle room (unless rows rest) x (sym (settled6 p t room) ∙ h)) in
     found (not-false (sound t) (n .0 .0)) (n .1 .0) (matchEntry t to) refl k
   where
     found : sound t ≡ true → Clear (malformed (header p)) → (f : Found) → matchEntry t (Ipv6.destination p) ≡ f → atFoundEntry t p f ≡ Sent x
@@ -163,7 +164,8 @@ unfolding frontRows4
 sent4-written p t room x op h =
     let to = Ipv4.destination p in
     let rest = atFoundRule t p (matchRule t to) in
-    let (n, k) = unless-sent (frontRows4 t (header4 p)) rest x (sent-settle room (unless (frontRows4 t (header4 p)) rest) x (sym (settled4 p t room) ∙ h)) in
+    let rows = frontRows4 t (header4 p) in
+    let (n, k) = unless-sent rows rest x (sent-settle room (unless rows rest) x (sym (settled4 p t room) ∙ h)) in
     found (not-false (sound t) (n .0 .0)) (matchRule t to) refl k
   where
     found : sound t ≡ true → (f : Found) → matchRule t (Ipv4.destination p) ≡ f → atFoundRule t p f ≡ Sent x

@@ -11,16 +11,20 @@ use Rattle.rules.specs.Exactly.{Exactly}
 use Rattle.rules.specs.Octets.{Octets, number}
 use Rattle.rules.specs.Assigned as Assigned
 use Rattle.rules.specs.Assigned.{end, endMGtp6D, endMGtp6DDi, endMGtp6E, ipv4Session, ipv6Session, ipv4v6Session}
-use Rattle.rules.specs.Table.{entries, rules, policies, entryAt, ruleAt, policyAt}
+use Rattle.rules.specs.Table.{policies, entryAt, ruleAt, policyAt}
 use Rattle.rules.specs.Entry as Entry
 use Rattle.rules.specs.Rule as Rule
 use Rattle.rules.specs.Policy as Policy
-use Rattle.rules.specs.Sound.{directionKnown, sessionKnown, startWithin, sidsWithin, reservedClear, behaviourKnown, usesSession, usesPolicy, usesStart, usesPlaces, headerConditions, entryConditions, ruleConditions, policyConditions, headerSound, entrySound, ruleSound, policySound, sameEntryPrefix, sameRulePrefix, sound, entryLimit}
+use Rattle.rules.specs.Sound.{directionKnown, sessionKnown, startWithin, sidsWithin, reservedClear, behaviourKnown, usesSession}
+use Rattle.rules.specs.Sound.{usesPolicy, usesStart, usesPlaces, headerConditions, entryConditions, ruleConditions, policyConditions}
+use Rattle.rules.specs.Sound.{headerSound, entrySound, ruleSound, policySound, sameEntryPrefix, sameRulePrefix, sound, entryLimit}
 use Rattle.rules.specs.Fault.{fault}
-use Rattle.rules.specs.SoundTable.{Kind, waypoint, d, di, e6, e4, Direction, downlink, uplink, SessionType, ipv4, ipv6, ipv4v6, ethernet, ArgsStart, RightEntry, RightRule, RightPolicy, SoundTable}
+use Rattle.rules.specs.SoundTable.{Kind, waypoint, d, di, e6, e4, Direction, downlink, uplink, SessionType, ipv4, ipv6}
+use Rattle.rules.specs.SoundTable.{ipv4v6, ethernet, ArgsStart, RightEntry, RightRule, RightPolicy, SoundTable}
 use Rattle.rules.proofs.Windows.{octets-window}
 use Rattle.rules.proofs.Bits.{clear-past, past-clear, windows-one}
-use Rattle.rules.proofs.Conditions.{and-left, and-right, and-both, conjunct, Holds, _also_, every-holds, holds-every, holding, meeting, or-cases, where-used, used-where, SoundParts, sound-parts, parts-sound}
+use Rattle.rules.proofs.Conditions.{and-left, and-right, and-both, conjunct, Holds, _also_, every-holds, holds-every, holding}
+use Rattle.rules.proofs.Conditions.{meeting, or-cases, where-used, used-where, SoundParts, sound-parts, parts-sound}
 use Rattle.rules.proofs.Faults.{sound-faultless, faultless-sound}
 
 -- VALUES OF FIELDS

@@ -11,7 +11,8 @@ use Rattle.rules.specs.Entry as Entry
 use Rattle.rules.specs.Rule as Rule
 use Rattle.rules.specs.Policy as Policy
 use Rattle.rules.specs.Match.{matchEntry, matchRule}
-use Rattle.rules.specs.Sound.{directionKnown, sessionKnown, usesSession, usesPolicy, usesStart, usesPlaces, entryConditions, ruleConditions, entrySound, ruleSound, policySound, soundWithin}
+use Rattle.rules.specs.Sound.{directionKnown, sessionKnown, usesSession, usesPolicy, usesStart, usesPlaces}
+use Rattle.rules.specs.Sound.{entryConditions, ruleConditions, entrySound, ruleSound, policySound, soundWithin}
 use Rattle.rules.specs.SoundTable.{ArgsStart, RightPolicy}
 use Rattle.rules.specs.declared.Found.the-variants.{At}
 use Rattle.rules.proofs.Conditions.{conjunct, Holds, every-holds, holding, where-used, sound-parts}
@@ -19,11 +20,6 @@ use Rattle.rules.proofs.SoundTables.{start-known, right-policy}
 use Rattle.rules.proofs.Longest.{matched-entry, matched-rule}
 
 -- AN ENTRY, A RULE, A POLICY THAT IS SOUND
-
--- an entry of any behaviour
-pub record SoundEntry (e : List ℕ) : Type 0 where
-  pub bits : Entry.prefixLength e ≤ 128
-  pub hopLimit : 1 ≤ Entry.hopLimit e
 
 pub record SoundPolicy (y : List ℕ) : Type 0 where
   pub least : 1 ≤ Policy.sidCount y
@@ -67,9 +63,6 @@ module _ (policies : ℕ) (e : List ℕ) (h : entrySound policies e ≡ true) wh
   conditions : Holds (entryConditions policies e)
   unfolding entrySound
   conditions = every-holds (entryConditions policies e) h
-
-  pub sound-entry : SoundEntry e
-  sound-entry = record { bits = omega (holding, conditions); hopLimit = omega (holding, conditions) }
 
   sound-direction : usesSession e ≡ true → directionKnown (Entry.direction e) ≡ true
   unfolding entrySound
@@ -133,9 +126,6 @@ module _ (limit : ℕ) (t a : List ℕ) (i : ℕ) (s : soundWithin limit t ≡ t
 
   pub found-entry : entrySound (policies t) (entryAt t i) ≡ true
   found-entry = sound-parts limit t s .entry i found-below
-
-  pub found-sound : SoundEntry (entryAt t i)
-  found-sound = sound-entry (policies t) (entryAt t i) found-entry
 
   -- D and Di
   found-gtp6d : usesSession (entryAt t i) ≡ true → usesPolicy (entryAt t i) ≡ true → SoundGtp6D t (entryAt t i)

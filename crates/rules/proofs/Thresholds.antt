@@ -1,30 +1,15 @@
 -- Sample packets on both sides of each threshold of rows 2 to 14, and what the calls answer them: one list, checked by computation.
-use mathlib.Core.Bool.{Bool, true, false, _&&_}
+use mathlib.Core.Bool.{Bool, true, _&&_}
 use mathlib.Core.List.{List, [], _∷_, _++_}
-use Prim.Native.Nat.{ℕ, _+_, _-_}
+use Prim.Native.Nat.{ℕ, _+_}
 use lib.Dec.{T, eqb}
-use lib.ListN.{length, take, replicate}
-use Rattle.rules.specs.Octets.{put16, window, number, splice}
-use Rattle.rules.specs.Prefix.{firstBits, under, clear}
+use lib.ListN.{length, take}
+use Rattle.rules.specs.Octets.{put16}
 use Rattle.rules.specs.Assigned.{endMGtp6D}
-use Rattle.rules.specs.Table.{entryAt, ruleAt, policyAt, addressesAt}
-use Rattle.rules.specs.Match.{longest, matchEntry, matchRule}
-use Rattle.rules.specs.Sound.{all, headerSound, entrySound, ruleSound, policySound, sameEntryPrefix, sameRulePrefix, distinct, soundWithin}
-use Rattle.rules.specs.Srh.{segment}
-use Rattle.rules.specs.Checksum.{onesSum, checksum}
-use Rattle.rules.specs.Args.{argsAt, withArgs}
-use Rattle.rules.specs.Answer.{Outcome, Sent, Refused, verdict}
-use Rattle.rules.specs.Header.{header}
-use Rattle.rules.specs.Datagram.{innerRows, datagram, messageRows, gPduRows}
-use Rattle.rules.specs.Session.{innerProtocol, accepts}
-use Rattle.rules.specs.Carried.{carriedBy, carried6, carried4}
-use Rattle.rules.specs.Waypoint.{withRouting, forwarded, waypointRows, stepRows}
-use Rattle.rules.specs.Gtp6D.{gtp6DPacket, gtp6Rows, rowsGtp6D}
-use Rattle.rules.specs.D.{dPath, dPacket}
-use Rattle.rules.specs.E6.{e6Carried, e6Packet, e6Rows, rowsE6}
-use Rattle.rules.specs.E4.{e4Carried, e4Packet, e4Rows, rowsE4}
-use Rattle.rules.specs.D4.{header4, d4Sid, d4Source, d4Packet, gtp4Rows, rowsD4}
-use Rattle.rules.specs.Calls.{decideEntry, decideFoundEntry, decideFoundRule, frontRows6, frontRows4, rows6, rows4, translate6, translate4}
+use Rattle.rules.specs.Checksum.{checksum}
+use Rattle.rules.specs.Answer.{Outcome, Sent, Refused}
+use Rattle.rules.specs.Calls.{translate6, translate4}
+use Rattle.rules.proofs.Computing.{computing}
 use Rattle.rules.proofs.Samples as Samples
 use Rattle.rules.proofs.Samples.{zeros, network, sidOf, gateway6, table}
 
@@ -78,12 +63,14 @@ atD datagram = answer (plain6 17 gateway6 datagram)
 abbrev pub tableEither : List ℕ
 tableEither =
     Samples.header 1 0 1
-    (69 ∷ 48 ∷ 64 ∷ 0 ∷ 3 ∷ 0 ∷ 0 ∷ 0 ∷ 0 ∷ 0 ∷ put16 2152 (zeros 4 ++ (network 0xa ++ (sidOf 0x63 ++ zeros 16))) ++ Samples.policy (sidOf 1 ∷ []))
+    (69 ∷ 48 ∷ 64 ∷ 0 ∷ 3 ∷ 0 ∷ 0 ∷ 0 ∷ 0 ∷ 0 ∷ put16 2152 (zeros 4 ++ (network 0xa ++ (sidOf 0x63 ++ zeros 16)))
+    ++ Samples.policy (sidOf 1 ∷ []))
 
 abbrev pub either : (inner : List ℕ) → ℕ
 either inner =
     let size = length inner in
-    numberOf (translate6 (plain6 17 gateway6 (message 2152 (24 + size) 0x34 255 (8 + size) (0 ∷ 0 ∷ 0 ∷ 0x85 ∷ 1 ∷ 0 ∷ 0x49 ∷ 0 ∷ inner))) tableEither 300)
+    let datagram = message 2152 (24 + size) 0x34 255 (8 + size) (0 ∷ 0 ∷ 0 ∷ 0x85 ∷ 1 ∷ 0 ∷ 0x49 ∷ 0 ∷ inner) in
+    numberOf (translate6 (plain6 17 gateway6 datagram) tableEither 300)
 
 -- an IPv4 packet with its first octet, total length, octets 6 and 7, protocol, and what is added to the right checksum
 abbrev pub front4 : (first total flags offset protocol : ℕ) (rest : List ℕ) → List ℕ
@@ -232,5 +219,5 @@ samples =
     ∷ []
 
 pub thresholds : T (right samples)
-unfolding samples window number splice firstBits under clear entryAt ruleAt policyAt addressesAt longest matchEntry matchRule all headerSound entrySound ruleSound policySound sameEntryPrefix sameRulePrefix distinct soundWithin segment onesSum argsAt withArgs verdict header datagram messageRows gPduRows innerProtocol accepts carriedBy carried6 carried4 withRouting forwarded waypointRows stepRows gtp6DPacket gtp6Rows innerRows rowsGtp6D dPath dPacket e6Carried e6Packet e6Rows rowsE6 e4Carried e4Packet e4Rows rowsE4 header4 d4Sid d4Source d4Packet gtp4Rows rowsD4 decideEntry decideFoundEntry decideFoundRule frontRows6 frontRows4 rows6 rows4 translate6 translate4
+unfolding samples computing
 thresholds = tt

@@ -6,7 +6,7 @@ use lib.ListN.{length, take, drop}
 use lib.Seq.{take-append-seam}
 use Rattle.rules.specs.Octets.{splice}
 use Rattle.rules.specs.Answer.{Outcome, Sent, Refused, overlay}
-use Rattle.rules.specs.Trip.{Version, v4, v6, Stop, Trip, translate, call, onward, buffersOf, trip, stops}
+use Rattle.rules.specs.Trip.{Version, v4, v6, Stop, Trip, translate, call, onward, buffersOf, trip}
 use Rattle.rules.specs.Calls.{translate6, translate4}
 use Rattle.rules.specs.Demand3.{forwardedInto, Arrives}
 

@@ -1,36 +1,24 @@
 -- The starred worked packets of document 01: rows of one list, under one claim about the definitions.
 use mathlib.Core.Bool.{Bool, true, false, _&&_}
 use mathlib.Core.List.{List, [], _∷_, _++_}
-use Prim.Native.Nat.{ℕ, _-_}
+use Prim.Native.Nat.{ℕ}
 use lib.Dec.{T, eqb}
 use lib.ListN.{length, take, replicate}
-use Rattle.rules.specs.Octets.{window, number, splice}
-use Rattle.rules.specs.Prefix.{firstBits, under, clear}
 use Rattle.rules.specs.Assigned.{endMGtp6D, endMGtp6DDi, ipv6Protocol, routingHeader, downlink, uplink}
-use Rattle.rules.specs.Table.{entryAt, ruleAt, policyAt, addressesAt}
-use Rattle.rules.specs.Match.{longest, matchEntry, matchRule}
-use Rattle.rules.specs.Sound.{all, headerSound, entrySound, ruleSound, policySound, sameEntryPrefix, sameRulePrefix, distinct, soundWithin}
 use Rattle.rules.specs.Ipv6 as Ipv6
 use Rattle.rules.specs.Ipv6.{ipv6}
-use Rattle.rules.specs.Srh.{segment, srh}
-use Rattle.rules.specs.Checksum.{onesSum}
+use Rattle.rules.specs.Srh.{srh}
 use Rattle.rules.specs.Gtpu.{udp}
 use Rattle.rules.specs.Args.{argsOctets, argsAt, withArgs}
-use Rattle.rules.specs.Answer.{Outcome, Sent, Refused, verdict, overlay}
-use Rattle.rules.specs.Header.{header}
-use Rattle.rules.specs.Datagram.{innerRows, datagram, messageRows, gPduRows}
-use Rattle.rules.specs.Session.{innerProtocol, accepts}
-use Rattle.rules.specs.Carried.{carriedBy, carried6, carried4}
-use Rattle.rules.specs.Waypoint.{withRouting, forwarded, waypointRows, stepRows}
-use Rattle.rules.specs.Gtp6D.{gtp6DPacket, gtp6Rows, rowsGtp6D}
-use Rattle.rules.specs.D.{dPath, dPacket}
-use Rattle.rules.specs.Di.{diPath, diPacket}
-use Rattle.rules.specs.E6.{e6Carried, e6Packet, e6Rows, rowsE6}
+use Rattle.rules.specs.Answer.{Outcome, Sent, Refused, verdict}
+use Rattle.rules.specs.Datagram.{datagram, messageRows, gPduRows}
+use Rattle.rules.specs.Carried.{carriedBy}
 use Rattle.rules.specs.D4.{d4Sid, d4Source}
-use Rattle.rules.specs.Calls.{decideEntry, decideFoundEntry, frontRows6, rows6, translate6}
+use Rattle.rules.specs.Calls.{translate6}
 use Rattle.rules.specs.Trip.{Stop, v6, trip}
 use Rattle.rules.specs.declared.Verdict.{Verdict}
 use Rattle.rules.specs.declared.Verdict.the-variants.{Pass, Refuse}
+use Rattle.rules.proofs.Computing.{computing}
 use Rattle.rules.proofs.Samples as Samples
 use Rattle.rules.proofs.Samples.{sidOf, gateway6, argsOf, table, values4, packet6}
 
@@ -149,5 +137,5 @@ examples =
     ∷ []
 
 pub worked : T (right examples)
-unfolding examples window number splice firstBits under clear entryAt ruleAt policyAt addressesAt longest matchEntry matchRule all headerSound entrySound ruleSound policySound sameEntryPrefix sameRulePrefix distinct soundWithin segment onesSum argsAt withArgs verdict overlay header datagram messageRows gPduRows innerProtocol accepts carriedBy carried6 carried4 withRouting forwarded waypointRows stepRows gtp6DPacket gtp6Rows innerRows rowsGtp6D dPath dPacket diPath diPacket e6Carried e6Packet e6Rows rowsE6 d4Sid d4Source frontRows6 decideEntry decideFoundEntry rows6 translate6 trip
+unfolding examples computing
 worked = tt

@@ -55,7 +55,10 @@ returns c =
     let p : List ℕ = now (a .packet) in
     let t : List ℕ = now (a .table) in
     let m = sym (c .before .before .before .find-entry .ensures ∙ ap (matchEntry t) (c .before .before .before .before .before .window16 .ensures)) in
-    answered-refused _ (plain 4) _ _ (ap (λ (f : Found). settle (length (now (a .out))) (atFoundEntry t p f)) (m ∙ c .before .enum-told .given .1) ∙ ap (settle (length (now (a .out)))) (at-no-entry t p)) (c .plain .ensures)
+    let room : ℕ = length (now (a .out)) in
+    answered-refused _ (plain 4) _ _
+    (ap (λ (f : Found). settle room (atFoundEntry t p f)) (m ∙ c .before .enum-told .given .1) ∙ ap (settle room) (at-no-entry t p))
+    (c .plain .ensures)
 
 same-length : tie.Need-same-length
 same-length c = search needs
@@ -67,7 +70,11 @@ returns-2 c =
     let p : List ℕ = now (a .packet) in
     let t : List ℕ = now (a .table) in
     let m = sym (c .before .before .before .before .before .before .before .find-entry .ensures ∙ ap (matchEntry t) (c .before .before .before .before .before .before .before .before .before .window16 .ensures)) in
-    answered-as _ _ _ _ _ (ap (settle (length (now (a .out)))) (sym (at-found-entry t p _)) ∙ ap (λ (f : Found). settle (length (now (a .out))) (atFoundEntry t p f)) (sym (m ∙ c .before .before .before .before .before .found .given .1))) (c .before .before .at-entry .ensures)
+    let room : ℕ = length (now (a .out)) in
+    answered-as _ _ _ _ _
+    (ap (settle room) (sym (at-found-entry t p _))
+    ∙ ap (λ (f : Found). settle room (atFoundEntry t p f)) (sym (m ∙ c .before .before .before .before .before .found .given .1)))
+    (c .before .before .at-entry .ensures)
 
 pub at-match-spec : {M : Type 1} → statement M
 at-match-spec =

@@ -70,7 +70,10 @@ returns c =
     let p : List ℕ = now (a .packet) in
     let t : List ℕ = now (a .table) in
     let m = sym (c .before .before .before .find-rule .ensures ∙ ap (matchRule t) (c .before .before .before .before .before .window4 .ensures)) in
-    answered-refused _ (plain 4) _ _ (ap (λ (f : Found). settle (length (now (a .out))) (atFoundRule t p f)) (m ∙ c .before .enum-told .given .1) ∙ ap (settle (length (now (a .out)))) (at-no-rule t p)) (c .plain .ensures)
+    let room : ℕ = length (now (a .out)) in
+    answered-refused _ (plain 4) _ _
+    (ap (λ (f : Found). settle room (atFoundRule t p f)) (m ∙ c .before .enum-told .given .1) ∙ ap (settle room) (at-no-rule t p))
+    (c .plain .ensures)
 
 same-length : tie.Need-same-length
 same-length c = search needs
@@ -82,7 +85,12 @@ returns-2 c =
     let p : List ℕ = now (a .packet) in
     let t : List ℕ = now (a .table) in
     let m = sym (c .before .before .before .before .before .before .before .before .find-rule .ensures ∙ ap (matchRule t) (c .before .before .before .before .before .before .before .before .before .before .window4 .ensures)) in
-    answered-as _ _ _ _ _ (ap (λ (r : List ℕ). settle (length (now (a .out))) (atD4 r p)) (c .before .before .before .before .rule-at .ensures .same) ∙ ap (settle (length (now (a .out)))) (sym (at-found-rule t p _)) ∙ ap (λ (f : Found). settle (length (now (a .out))) (atFoundRule t p f)) (sym (m ∙ c .before .before .before .before .before .before .found .given .1))) (c .before .before .at-d4 .ensures)
+    let room : ℕ = length (now (a .out)) in
+    answered-as _ _ _ _ _
+    (ap (λ (r : List ℕ). settle room (atD4 r p)) (c .before .before .before .before .rule-at .ensures .same)
+    ∙ ap (settle room) (sym (at-found-rule t p _))
+    ∙ ap (λ (f : Found). settle room (atFoundRule t p f)) (sym (m ∙ c .before .before .before .before .before .before .found .given .1)))
+    (c .before .before .at-d4 .ensures)
 
 pub at-match4-spec : {M : Type 1} → statement M
 at-match4-spec =
