@@ -2,7 +2,7 @@
 use mathlib.Core.List.{[], _∷_, _++_}
 use Prim.Native.Nat.{_+_, _*_}
 use lib.Dec.{T, eqb}
-use Rattle.rules.specs.Octets.{window, number}
+use Rattle.rules.specs.Octets.{window, number, splice}
 use Rattle.rules.specs.Prefix.{clear}
 use Rattle.rules.specs.Assigned.{end, endMGtp6D, endMGtp6DDi, endMGtp6E}
 use Rattle.rules.specs.Table.{entryAt, ruleAt, policyAt}
@@ -23,6 +23,9 @@ pub faults : T (every
     ∷ eqb (fault (header 1 0 0 (entry endMGtp6D 48 (network 0xa)))) (7 + 256 * 2)
     ∷ eqb (fault (header 2 0 0 (entry end 48 (network 0xa) ++ entry endMGtp6E 65 (sidOf 1)))) (9 + 256 * 2 + 65536 * 1)
     ∷ eqb (fault (header 2 0 0 (entry end 48 (network 0xa) ++ entry endMGtp6E 48 (network 0xa)))) (14 + 256 * 2 + 65536 * 1)
+    -- octet 9 of an entry is reserved, octet 12 is not examined
+    ∷ eqb (fault (splice (header 1 0 0 (entry end 48 (network 0xa))) 25 (1 ∷ []))) (13 + 256 * 2)
+    ∷ eqb (fault (splice (header 1 0 0 (entry end 48 (network 0xa))) 28 (1 ∷ []))) 0
     -- rules: one for any destination twice
     ∷ eqb (fault (header 0 2 0 (rule [] ++ rule []))) (12 + 256 * 3 + 65536 * 1)
     -- policies: no SID
@@ -33,5 +36,6 @@ pub faults : T (every
     ∷ eqb (fault (header 0 2 1 (rule [] ++ (rule [] ++ policy [])))) (12 + 256 * 3 + 65536 * 1)
     ∷ eqb (fault (header 3 0 0 (entry end 48 (network 0xa) ++ (entry end 48 (network 0xa) ++ entry 2 48 (network 0xb))))) (1 + 256 * 2 + 65536 * 2)
     ∷ []))
-unfolding window number clear entryAt ruleAt policyAt all sameEntryPrefix sameRulePrefix told orElse firstFault entryBroken ruleBroken policyBroken faultWithin
+unfolding window number splice clear entryAt ruleAt policyAt all sameEntryPrefix sameRulePrefix told orElse firstFault
+    entryBroken ruleBroken policyBroken faultWithin
 faults = tt

@@ -36,6 +36,7 @@ pub mod Samples
 pub mod FaultSamples
 pub mod Worked
 pub mod Thresholds
+pub mod Trials
 pub mod Premises
 pub mod AnswerTable
 pub mod Refusals
