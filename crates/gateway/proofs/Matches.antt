@@ -11,12 +11,11 @@ use Rattle.rules.specs.Octets.{window}
 use Rattle.rules.specs.Assigned.{end, endMGtp6D, endMGtp6DDi, endMGtp6E, endMGtp4E, downlink, uplink}
 use Rattle.rules.specs.Table.{policies, policyAt}
 use Rattle.rules.specs.Entry as Entry
-use Rattle.rules.specs.Rule as Rule
 use Rattle.rules.specs.Ipv6 as Ipv6
 use Rattle.rules.specs.Ipv4 as Ipv4
 use Rattle.rules.specs.Match.{matchEntry, matchRule}
 use Rattle.rules.specs.Sound.{directionKnown, behaviourKnown, entrySound, sound}
-use Rattle.rules.specs.Answer.{row, plain, any, verdict, Refused, settle}
+use Rattle.rules.specs.Answer.{plain, any, verdict, Refused, settle}
 use Rattle.rules.specs.Header.{header, headerOf, malformed}
 use Rattle.rules.specs.D4.{header4, header4Of, malformed4, badHeader4}
 use Rattle.rules.specs.Waypoint.{atWaypoint}

@@ -11,7 +11,6 @@ use lib.Seq.{drop-drop, getD-drop, take-take, length-take-le}
 use borrow.Author.Tests.{not-false, ne-eqb}
 use Rattle.rules.specs.Octets.{octet, window, splice}
 use Rattle.rules.specs.Rule as Rule
-use Rattle.rules.specs.Ipv4 as Ipv4
 use Rattle.rules.specs.Gtpu as Gtpu
 use Rattle.rules.specs.Table.{addressesAt}
 use Rattle.rules.specs.Args.{Args, withArgs}

@@ -3,7 +3,7 @@
 use mathlib.Core.List.{List, [], _∷_, _++_}
 use Prim.Native.Nat.{ℕ}
 use lib.Dec.{T}
-use lib.ListN.{length, replicate}
+use lib.ListN.{replicate}
 use Rattle.rules.specs.Assigned.{end, endMGtp6DDi, endMGtp6E}
 use Rattle.rules.specs.Checksum.{onesSum}
 use Rattle.rules.specs.Gtpu.{udp}

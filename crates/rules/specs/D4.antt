@@ -1,7 +1,7 @@
 -- D4: H.M.GTP4.D (RFC 9433, 6.7).
 use mathlib.Core.List.{List, [], _∷_, _++_}
 use mathlib.Core.Bool.{Bool}
-use Prim.Native.Nat.{ℕ, _-_, _*_}
+use Prim.Native.Nat.{ℕ, _-_}
 use lib.Dec.{ltb}
 use lib.ListN.{length, take, replicate}
 use Rattle.rules.specs.Octets.{octet}
