@@ -1,23 +1,25 @@
 -- The two calls: of the numbers that apply the first is given; every answer is one of document 01's list; what the output holds afterwards.
-use mathlib.Core.Path.{_≡_, refl, sym, ap, subst}
+use mathlib.Core.Path.{_≡_, refl, sym, ap, _∙_, subst}
 use mathlib.Core.Bool.{Bool, true, false, cond}
-use mathlib.Core.List.{List}
+use mathlib.Core.List.{List, [], _∷_}
 use Prim.Native.Nat.{ℕ, _+_, _*_, _≤_, _<_}
 use native.Mathlib.Omega.{arith}
+use native.Mathlib.Decide.{ℕ-discrete}
 use lib.Dec.{eqb}
 use lib.ListN.{length}
+use borrow.Author.Tests.{ne-eqb}
 use Rattle.rules.specs.Octets.{Octets, window, splice}
 use Rattle.rules.specs.Ipv6 as Ipv6
 use Rattle.rules.specs.Srh as Srh
-use Rattle.rules.specs.Answer.{verdict, applies, Decision, Outcome, Sent, Refused, after, outcome, inRoom, overlay, packed}
+use Rattle.rules.specs.Answer.{Row, verdict, applies, Decision, Outcome, Sent, Refused, after, outcome, inRoom, overlay, packed}
 use Rattle.rules.specs.Calls.{decide6, decide4, rows6, rows4, translate6, translate4}
 use Rattle.rules.specs.Refused.{upperAt}
-use Rattle.rules.specs.Given.{GoesBy, icmp, withoutIcmp, withIcmp, ReadBack, Listed, Leaves}
+use Rattle.rules.specs.Given.{GoesBy, Smallest, icmp, withoutIcmp, withIcmp, ReadBack, Listed, Leaves}
 use Rattle.rules.specs.declared.Refusal.{Refusal}
 use Rattle.rules.specs.declared.Verdict.{Verdict}
 use Rattle.rules.specs.declared.Verdict.the-variants.{Pass, Refuse}
-use Rattle.rules.proofs.Smallest.{goes-by}
-use Rattle.rules.proofs.AnswerTable.{EachProper, verdict-proper, tabled6, tabled4}
+use Rattle.rules.proofs.Smallest.{after-refused, goes-by, smaller-before}
+use Rattle.rules.proofs.AnswerTable.{Proper, EachProper, Tabled, verdict-proper, tabled6, tabled4}
 use Rattle.rules.proofs.Splices.{splice-length, splice-window, splice-other}
 use Rattle.rules.proofs.SentFields.{sent6-size, sent4-size}
 
@@ -30,6 +32,32 @@ given6 p t room = goes-by (inRoom room (decide6 p t)) (tabled6 p t room .order)
 pub given4 : (p t : List ℕ) (room : ℕ) → GoesBy (λ n. applies n (rows4 p t room)) (translate4 p t room)
 unfolding translate4 rows4
 given4 p t room = goes-by (inRoom room (decide4 p t)) (tabled4 p t room .order)
+
+-- THE SMALLEST
+
+-- no row has the number 0
+no-row-0 : (refusalOf : ℕ → Refusal) (rs : List Row) → EachProper refusalOf rs → applies 0 rs ≡ false
+no-row-0 refusalOf [] each = refl
+no-row-0 refusalOf (r ∷ rs) each =
+    rw (ne-eqb 0 (r .refusal .number) (λ e. omega (arith, each .0 .least, e))) (no-row-0 refusalOf rs (each .1))
+
+smallest : (refusalOf : ℕ → Refusal) (d : Decision) → Tabled refusalOf 0 (d .rows) → Smallest (λ n. applies n (d .rows)) (outcome d)
+smallest refusalOf d t r h n l = pick (ℕ-discrete n 0)
+  where
+    q : Proper refusalOf r
+    q = verdict-proper refusalOf (d .rows) r (t .each) (after-refused (verdict (d .rows)) (d .packet) r h)
+
+    pick : Dec (n ≡ 0) → applies n (d .rows) ≡ false
+    pick (yes e) = ap (λ (m : ℕ). applies m (d .rows)) e ∙ no-row-0 refusalOf (d .rows) (t .each)
+    pick (no c) = goes-by d (t .order) .refused r h .before n (smaller-before n (r .number) (omega arith) l (q .most))
+
+pub smallest6 : (p t : List ℕ) (room : ℕ) → Smallest (λ n. applies n (rows6 p t room)) (translate6 p t room)
+unfolding translate6 rows6
+smallest6 p t room = smallest (withIcmp (upperAt p)) (inRoom room (decide6 p t)) (tabled6 p t room)
+
+pub smallest4 : (p t : List ℕ) (room : ℕ) → Smallest (λ n. applies n (rows4 p t room)) (translate4 p t room)
+unfolding translate4 rows4
+smallest4 p t room = smallest withoutIcmp (inRoom room (decide4 p t)) (tabled4 p t room)
 
 -- DOCUMENT 01'S LIST
 

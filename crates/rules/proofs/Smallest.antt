@@ -2,12 +2,12 @@
 use mathlib.Core.Path.{_≡_, refl, sym, ap, _∙_}
 use mathlib.Core.Bool.{Bool, true, false, cond, true≢false}
 use mathlib.Core.List.{List, [], _∷_}
-use Prim.Native.Nat.{ℕ, suc, _≤_, _<_}
+use Prim.Native.Nat.{ℕ, zero, suc, _+_, _-_, _≤_, _<_}
 use native.Mathlib.Omega.{arith}
 use native.Mathlib.Decide.{ℕ-discrete, decLt}
-use lib.Dec.{leb}
+use lib.Dec.{eqb, leb}
 use borrow.Author.Tests.{leb-true, eq-eqb, ne-eqb}
-use Rattle.rules.specs.Answer.{Row, any, verdict, place, inPlace, applies, Decision, Sent, Refused, after, outcome}
+use Rattle.rules.specs.Answer.{Row, any, verdict, position, place, inPlace, applies, Decision, Sent, Refused, after, outcome}
 use Rattle.rules.specs.Given.{First, GoesBy}
 use Rattle.rules.specs.declared.Refusal.{Refusal}
 use Rattle.rules.specs.declared.Verdict.{Verdict}
@@ -142,7 +142,7 @@ none-passed (r ∷ rs) k o h =
 
 -- A DECISION
 
-after-refused : (v : Verdict) (x : List ℕ) (r : Refusal) → after v (Sent x) ≡ Refused r → v ≡ Refuse r
+pub after-refused : (v : Verdict) (x : List ℕ) (r : Refusal) → after v (Sent x) ≡ Refused r → v ≡ Refuse r
 after-refused Pass x r h = let z : _≡_ {A = ℕ} 0 1 = cc in absurd (omega arith)
 after-refused (Refuse ρ) x r h = cc
 
@@ -157,3 +157,28 @@ goes-by d o = record {
   sent = λ x h. passed-none (d .rows) (after-sent (verdict (d .rows)) (d .packet) x h);
   free = λ h. (d .packet, ap (λ (v : Verdict). after v (Sent (d .packet))) (none-passed (d .rows) 0 o h));
 }
+
+-- BY SIZE
+
+-- j numbers from k on
+upFrom : (k j : ℕ) → List ℕ
+upFrom k zero = []
+upFrom k (suc j) = k ∷ upFrom (suc k) j
+
+position-up : (n k j : ℕ) → k ≤ n → n < k + j → position n (upFrom k j) ≡ n - k
+unfolding upFrom
+position-up n k zero l h = absurd (omega arith)
+position-up n k (suc j) l h = go (ℕ-discrete n k) (λ d. position-up n (suc k) j (omega arith) (omega arith))
+  where
+    go : Dec (n ≡ k) → ((n ≡ k → ⊥) → position n (upFrom (suc k) j) ≡ n - suc k)
+        → cond (eqb n k) 0 (suc (position n (upFrom (suc k) j))) ≡ n - k
+    go (yes e) ih = rw (eq-eqb n k e) (omega arith)
+    go (no d) ih = let q = ih d in rw (ne-eqb n k d) (omega arith)
+
+-- the places are in the order of size
+place-size : (n : ℕ) → 1 ≤ n → n ≤ 16 → place n ≡ n - 1
+unfolding place upFrom
+place-size n l m = position-up n 1 16 l (omega arith)
+
+pub smaller-before : (m n : ℕ) → 1 ≤ m → m < n → n ≤ 16 → place m < place n
+smaller-before m n l h b = let p = place-size m l (omega arith) in let q = place-size n (omega arith) b in omega arith

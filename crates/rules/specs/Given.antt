@@ -22,6 +22,10 @@ pub record GoesBy (applies : ℕ → Bool) (o : Outcome) : Type 0 where
   pub sent : (x : List ℕ) → o ≡ Sent x → (n : ℕ) → applies n ≡ false
   pub free : ((n : ℕ) → applies n ≡ false) → (x : List ℕ) × (o ≡ Sent x)
 
+-- and it is the smallest: where a refusal is given, no smaller number applies
+abbrev pub Smallest : (applies : ℕ → Bool) → Outcome → Type 0
+Smallest applies o = (r : Refusal) → o ≡ Refused r → (n : ℕ) → n < r .number → applies n ≡ false
+
 -- WITH ITS ICMP FIELDS
 
 abbrev pub icmp : (number icmpType icmpCode pointer : ℕ) → Refusal
