@@ -1,7 +1,7 @@
 -- How it is shown that a test, or one of several, holds exactly where a statement does.
 use mathlib.Core.Path.{_≡_, refl, sym}
 use mathlib.Core.Logic.{_≢_}
-use mathlib.Core.Bool.{Bool, true, false, not, _||_, true≢false}
+use mathlib.Core.Bool.{Bool, true, false, not, _&&_, _||_, true≢false}
 use mathlib.Core.List.{List, [], _∷_}
 use Prim.Native.Nat.{ℕ, zero, suc, _<_}
 use lib.Dec.{eqb, ltb}
@@ -30,6 +30,10 @@ over a b = only (ltb a b) (a < b) (ltb-true a b) (lt-ltb a b)
 pub only-not : (b : Bool) (P : Type 0) → Exactly b P → Exactly (not b || false) (P → ⊥)
 only-not true P (f, g) = (λ h. absurd (true≢false (sym h)), λ n. absurd (n (f refl)))
 only-not false P (f, g) = (λ h p. true≢false (sym (g p)), λ n. refl)
+
+pub and-not : (b : Bool) → not (b && false) ≡ true
+and-not true = refl
+and-not false = refl
 
 -- SEVERAL
 

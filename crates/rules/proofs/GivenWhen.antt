@@ -55,7 +55,8 @@ use Rattle.rules.proofs.FarE4.{e4-length}
 use Rattle.rules.proofs.SentFields.{e6Carried-valid, e4Carried-valid}
 use Rattle.rules.proofs.Fields.{waypoint-written}
 use Rattle.rules.proofs.Refusals.{row-2, row-2-ipv4, row-3, row-5, row-5-e6, row-6, row-7, row-7-e6, row-7-waypoint, row-8-waypoint}
-use Rattle.rules.proofs.Refusals.{row-8-session, row-8, row-9, row-10, row-11, row-12, row-13, row-14}
+use Rattle.rules.proofs.Refusals.{row-8-session}
+use Rattle.rules.proofs.DatagramRefusals.{row-8, row-9, row-10, row-11, row-12, row-13, row-14}
 
 -- a limit and a number said otherwise
 over-as : (a b c : ℕ) → b ≡ c → Exactly (ltb a b || false) (a < c)

@@ -40,6 +40,7 @@ pub mod Trials
 pub mod Premises
 pub mod AnswerTable
 pub mod Refusals
+pub mod DatagramRefusals
 pub mod Layouts
 pub mod Smallest
 pub mod PathFields
