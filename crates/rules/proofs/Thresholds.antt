@@ -1,9 +1,10 @@
--- Sample packets on both sides of each threshold of rows 2 to 14, and what the calls answer them: one list, checked by computation.
+-- Sample packets on both sides of each threshold of rows 2 to 14, and some to which two rows apply, and what the calls answer them: one
+-- list, checked by computation.
 use mathlib.Core.Bool.{Bool, true, _&&_}
 use mathlib.Core.List.{List, [], _∷_, _++_}
 use Prim.Native.Nat.{ℕ, _+_}
 use lib.Dec.{T, eqb}
-use lib.ListN.{length, take}
+use lib.ListN.{length, take, replicate}
 use Rattle.rules.specs.Octets.{put16}
 use Rattle.rules.specs.Assigned.{endMGtp6D}
 use Rattle.rules.specs.Checksum.{checksum}
@@ -59,18 +60,19 @@ atE6 left last upper = answer (routed 64 (sidOf 1) upper 4 left last [])
 abbrev pub atD : (datagram : List ℕ) → ℕ
 atD datagram = answer (plain6 17 gateway6 datagram)
 
--- at D with IPv4v6 sessions, an inner packet of some octets
-abbrev pub tableEither : List ℕ
-tableEither =
-    Samples.header 1 0 1
-    (69 ∷ 48 ∷ 64 ∷ 0 ∷ 3 ∷ 0 ∷ 0 ∷ 0 ∷ 0 ∷ 0 ∷ put16 2152 (zeros 4 ++ (network 0xa ++ (sidOf 0x63 ++ zeros 16)))
-    ++ Samples.policy (sidOf 1 ∷ []))
+-- at D with IPv4v6 sessions and a policy of some SIDs: a G-PDU with an inner packet
+abbrev pub tableEither : (sids : ℕ) → List ℕ
+tableEither sids =
+    let entry : List ℕ = 69 ∷ 48 ∷ 64 ∷ 0 ∷ 3 ∷ 0 ∷ 0 ∷ 0 ∷ 0 ∷ 0 ∷ put16 2152 (zeros 4 ++ (network 0xa ++ (sidOf 0x63 ++ zeros 16))) in
+    Samples.header 1 0 1 (entry ++ Samples.policy (replicate sids (sidOf 1)))
+
+abbrev pub tunnelled : (inner : List ℕ) → List ℕ
+tunnelled inner =
+    let size = length inner in
+    message 2152 (24 + size) 0x34 255 (8 + size) (0 ∷ 0 ∷ 0 ∷ 0x85 ∷ 1 ∷ 0 ∷ 0x49 ∷ 0 ∷ inner)
 
 abbrev pub either : (inner : List ℕ) → ℕ
-either inner =
-    let size = length inner in
-    let datagram = message 2152 (24 + size) 0x34 255 (8 + size) (0 ∷ 0 ∷ 0 ∷ 0x85 ∷ 1 ∷ 0 ∷ 0x49 ∷ 0 ∷ inner) in
-    numberOf (translate6 (plain6 17 gateway6 datagram) tableEither 300)
+either inner = numberOf (translate6 (plain6 17 gateway6 (tunnelled inner)) (tableEither 1) 300)
 
 -- an IPv4 packet with its first octet, total length, octets 6 and 7, protocol, and what is added to the right checksum
 abbrev pub front4 : (first total flags offset protocol : ℕ) (rest : List ℕ) → List ℕ
@@ -216,6 +218,11 @@ samples =
     ∷ is (either (0x50 ∷ [])) 14
     ∷ is (either (0x6f ∷ [])) 0
     ∷ is (either (0x70 ∷ [])) 14
+    -- of two rows the one before: 5 and 16; 7 and 15 at E6, with an SRH that holds no segment; 14 and 15 at D
+    ∷ is (numberOf (translate6 (plain6 0 (sidOf 2) []) tableD 0)) 5
+    ∷ is (numberOf (translate6 (plain6 43 (sidOf 1) (41 ∷ 0 ∷ 4 ∷ 1 ∷ 0 ∷ 0 ∷ 0 ∷ 0 ∷ replicate 65512 0)) tableD 66000)) 7
+    ∷ is (numberOf (translate6 (plain6 17 gateway6 (tunnelled (replicate 65496 0))) (tableEither 2) 66000)) 14
+    ∷ is (numberOf (translate6 (plain6 17 gateway6 (tunnelled (0x40 ∷ replicate 65495 0))) (tableEither 2) 66000)) 15
     ∷ []
 
 pub thresholds : T (right samples)
