@@ -7,9 +7,11 @@
  *     if (kawsarpa_answer_number(answer) == KAWSARPA_ANSWER_SENT)
  *         send_on(out, kawsarpa_answer_length(answer));
  *
- * kawsarpa_table_fault says of a table, before it is used, which condition it breaks, if any.
+ * kawsarpa_table_fault says of a table, before it is used, which condition it breaks, if any. kawsarpa_loss_offer counts the
+ * sequence numbers that were lost on the way, for the stations that send them.
  *
- * The parts of this file: the calls, what they answer, the faults of a table, the octets of a table. The library is for x86-64.
+ * The parts of this file: the calls, what they answer, lost sequence numbers, the faults of a table, the octets of a table. The
+ * library is for x86-64.
  */
 #ifndef KAWSARPA_H
 #define KAWSARPA_H
@@ -161,7 +163,11 @@ enum {
     /* a length field would pass 65,535 */
     KAWSARPA_ANSWER_TOO_LONG = 15,
     /* the output is shorter than the result */
-    KAWSARPA_ANSWER_NO_ROOM = 16
+    KAWSARPA_ANSWER_NO_ROOM = 16,
+    /* an offer alone: no row is free for a new TEID */
+    KAWSARPA_ANSWER_NO_ROW = 25,
+    /* an offer alone: the row has seen 4,294,967,295 */
+    KAWSARPA_ANSWER_ROW_FULL = 26
 };
 
 /* ICMPv6 types (RFC 4443): answer 6 has the first, answers 7 and 8 the second. */
@@ -176,9 +182,114 @@ static inline const char *kawsarpa_answer_name(unsigned int number)
     static const char *const names[] = {
         "sent", "table not sound", "malformed packet", "bad IPv4 header", "no match", "bad header chain", "hop limit exceeded",
         "bad segments left", "bad upper layer", "bad UDP", "bad GTP-U", "not a G-PDU", "bad extensions", "bad container",
-        "bad inner packet", "too long", "no room"
+        "bad inner packet", "too long", "no room", 0, 0, 0, 0, 0, 0, 0, 0, "no row free", "row full"
     };
-    return number < sizeof names / sizeof names[0] ? names[number] : "unknown";
+    return number < sizeof names / sizeof names[0] && names[number] != 0 ? names[number] : "unknown";
+}
+
+/*
+ * LOST SEQUENCE NUMBERS
+ *
+ * Some base stations set S in the GTP-U header and number their packets. The readers give TEID and sequence number of a packet as it
+ * arrives; an offer counts the number in the row of its TEID.
+ *
+ *     static struct kawsarpa_loss_row rows[KAWSARPA_LOSS_ROWS_MAX];
+ *
+ *     uint64_t sequence = kawsarpa_call_sequence_ipv6(packet, packet_len);
+ *     if (kawsarpa_sequence_found(sequence))
+ *         kawsarpa_loss_offer(rows, KAWSARPA_LOSS_ROWS_MAX, kawsarpa_sequence_teid(sequence), kawsarpa_sequence_number(sequence));
+ *
+ * Offer the numbers in the order in which the packets arrived. A station numbers each TEID by itself and in each direction, so one
+ * array of rows is for one direction or one port; two directions in one array would be counted as one stream.
+ *
+ * The lowest row of the TEID serves, else the lowest free one. Rows past KAWSARPA_LOSS_ROWS_MAX are never read or changed. An offer
+ * changes one row at most and answers 0 in the packed form of the calls; KAWSARPA_ANSWER_NO_ROW and KAWSARPA_ANSWER_ROW_FULL change
+ * nothing.
+ *
+ * Beside what the calls are owed, the caller owes that rows are aligned as the struct is, and that nobody else reads or changes them
+ * during an offer: threads have rows of their own, or a lock. Any octets may stand in rows; the counts of rows that were not all free
+ * at the start wrap at 2^32, and lost at 2^64.
+ *
+ * To begin, and to reset, zero the rows: memset the array, or the one row, between two offers. A row that has seen 4,294,967,295
+ * counts no further: at a million packets a second that is after 71 minutes, so read and reset within that time.
+ */
+
+enum {
+    KAWSARPA_LOSS_ROWS_MAX = 256
+};
+
+/*
+ * One TEID. The row is free where seen is 0, whatever else stands there. In every row that is used, on rows that were all free at
+ * the start: seen = new + repeated + late, and first + new - 1 + lost is highest mod 65,536.
+ */
+struct kawsarpa_loss_row {
+    uint32_t teid;
+    uint16_t first;    /* the number with which the row began */
+    uint16_t highest;  /* the number from which distances are taken: that of the last new packet */
+    uint32_t seen;     /* packets offered and counted */
+#ifdef __cplusplus
+    uint32_t new_;     /* new, which C++ keeps for itself */
+#else
+    uint32_t new;      /* distance 1 to 32,767 from the highest number, and the first */
+#endif
+    uint32_t repeated; /* distance 0 */
+    uint32_t late;     /* distance -1 to -32,768 */
+    uint64_t lost;     /* numbers passed over: distance less one of every new packet. A late packet takes nothing from it */
+};
+
+#ifdef __cplusplus
+extern "C" {
+#endif
+
+uint64_t kawsarpa_loss_offer(struct kawsarpa_loss_row *rows, size_t count, uint32_t teid, uint16_t number);
+
+/*
+ * TEID and sequence number of a well-formed G-PDU with S; 0 for everything else, a G-PDU without S included. Well-formed: of the
+ * answers 2, 3, 5 and 7 to 11 none applies, as at D, Di and D4. No table is asked.
+ */
+uint64_t kawsarpa_sequence_ipv6(const uint8_t *packet, size_t packet_len);
+
+uint64_t kawsarpa_sequence_ipv4(const uint8_t *packet, size_t packet_len);
+
+#ifdef __cplusplus
+}
+#endif
+
+/* The same, for a caller whose pointer may be null where the count is 0. */
+
+static inline uint64_t kawsarpa_call_loss_offer(struct kawsarpa_loss_row *rows, size_t count, uint32_t teid, uint16_t number)
+{
+    struct kawsarpa_loss_row none;
+    return kawsarpa_loss_offer(count == 0 ? &none : rows, count, teid, number);
+}
+
+static inline uint64_t kawsarpa_call_sequence_ipv6(const uint8_t *packet, size_t packet_len)
+{
+    uint8_t none = 0;
+    return kawsarpa_sequence_ipv6(packet_len == 0 ? &none : packet, packet_len);
+}
+
+static inline uint64_t kawsarpa_call_sequence_ipv4(const uint8_t *packet, size_t packet_len)
+{
+    uint8_t none = 0;
+    return kawsarpa_sequence_ipv4(packet_len == 0 ? &none : packet, packet_len);
+}
+
+/* What a reader gives: bit 48 set, TEID in bits 16 to 47, sequence number in bits 0 to 15; or 0. */
+
+static inline int kawsarpa_sequence_found(uint64_t sequence)
+{
+    return sequence != 0;
+}
+
+static inline uint32_t kawsarpa_sequence_teid(uint64_t sequence)
+{
+    return (uint32_t)(sequence >> 16 & 0xFFFFFFFF);
+}
+
+static inline uint16_t kawsarpa_sequence_number(uint64_t sequence)
+{
+    return (uint16_t)(sequence & 0xFFFF);
 }
 
 /*
@@ -438,7 +549,7 @@ struct kawsarpa_policy {
     uint8_t spare144[144];
 };
 
-/* Sizes and offsets, in octets. The compiler refuses any other: an array of -1 octets. */
+/* Sizes and offsets, in octets, of the records of a table and of a row. The compiler refuses any other: an array of -1 octets. */
 #define KAWSARPA_SIZE(record, size) typedef char kawsarpa_size_##record[sizeof(struct kawsarpa_##record) == (size) ? 1 : -1]
 #define KAWSARPA_AT(offset, record, field) \
     typedef char kawsarpa_at_##record##_##field[offsetof(struct kawsarpa_##record, field) == (offset) ? 1 : -1]
@@ -483,6 +594,20 @@ KAWSARPA_AT(0, policy, sid_count);
 KAWSARPA_AT(1, policy, args_start);
 KAWSARPA_AT(2, policy, reserved);
 KAWSARPA_AT(16, policy, sids);
+
+KAWSARPA_SIZE(loss_row, 32);
+KAWSARPA_AT(0, loss_row, teid);
+KAWSARPA_AT(4, loss_row, first);
+KAWSARPA_AT(6, loss_row, highest);
+KAWSARPA_AT(8, loss_row, seen);
+#ifdef __cplusplus
+KAWSARPA_AT(12, loss_row, new_);
+#else
+KAWSARPA_AT(12, loss_row, new);
+#endif
+KAWSARPA_AT(16, loss_row, repeated);
+KAWSARPA_AT(20, loss_row, late);
+KAWSARPA_AT(24, loss_row, lost);
 
 #undef KAWSARPA_SIZE
 #undef KAWSARPA_AT
