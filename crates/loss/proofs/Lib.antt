@@ -1,0 +1,4 @@
+pub mod Choosing
+pub mod Distances
+pub mod Lowest
+pub mod Searching
