@@ -161,9 +161,11 @@ module _ (rows : List Row) (teid : ℕ) where
   found-own low = go (ofTeidIn m) (freeIn m) serves
     where
       go : (t f : Found) → Serves t f → (orElse t f ≡ At B) × (B < m) × (ofTeid teid (rowAt rows B) ≡ true)
-      go (At i) f p =
-          (ap At (sym (p .0)), subst (λ (k : ℕ). k < m) (sym (p .0)) (p .1),
-          subst (λ (k : ℕ). ofTeid teid (rowAt rows k) ≡ true) (sym (p .0)) (p .2))
+      go (At i) f p = (
+        ap At (sym (p .0)),
+        subst (λ (k : ℕ). k < m) (sym (p .0)) (p .1),
+        subst (λ (k : ℕ). ofTeid teid (rowAt rows k) ≡ true) (sym (p .0)) (p .2),
+      )
       go Nothing (At j) p = let e = p .0 in absurd (omega arith)
       go Nothing Nothing p = absurd (omega arith)
 
@@ -195,6 +197,12 @@ module _ (rows : List Row) (teid : ℕ) where
       go : (z : Bool) → (not z && eqb (r .teid) teid) ≡ true → z ≡ false
       go true e = absurd (true≢false (sym e))
       go false e = refl
+
+  pub own-inside : B < 256 → B < length rows
+  own-inside low = let h = found-own low .1 in let u = used-le (length rows) in omega arith
+
+  pub free-inside : 256 ≤ B → (B ≡ 512 → ⊥) → B - 256 < length rows
+  free-inside high some = let h = found-free high some .1 in let u = used-le (length rows) in omega arith
 
   module _ (number : ℕ) where
     pub offer-none : B ≡ 512 → (25, rows) ≡ offer rows teid number

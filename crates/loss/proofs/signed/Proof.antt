@@ -21,9 +21,12 @@ returns c = rw (lt-ltb (c .before .args .d) 32768 (c .if1 .taken))
 returns-2 : tie.Need-returns-2
 unfolding signedOf
 returns-2 c =
-    rw (low (65535 - c .before .args .d) (omega arith), minus,
+    rw (
+      low (65535 - c .before .args .d) (omega arith),
+      minus,
       toZ-ofZ {w = w16} {z = negsuc (65535 - c .before .args .d)} (record { sfits = omega arith }),
-      le-ltb (c .before .args .d) 32768 (c .if1 .left))
+      le-ltb (c .before .args .d) 32768 (c .if1 .left),
+    )
 
 pub signed-spec : {M : Type 1} → statement M
 signed-spec =
