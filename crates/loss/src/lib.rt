@@ -2,8 +2,7 @@
 ghost use mathlib.Core.Path.{_≡_};
 ghost use Prim.Native.Nat.{ℕ, _<_};
 ghost use lib.ListN.{length};
-ghost use Rattle.loss.specs.Loss.{signedOf, arrivalOf, distance, counted, started, usedOf, offer};
-ghost use Rattle.loss.specs.Search.{nearer};
+ghost use Rattle.loss.specs.Loss.{signedOf, arrivalOf, distance, counted, started, free, ofTeid, usedOf, offer};
 
 // A row is free where `seen` is 0.
 #[repr(C)]
@@ -19,11 +18,6 @@ pub struct Row {
 }
 
 const ROWS_MAX: usize = 256;
-
-// What a search has found: a row of the TEID at place i is i, a free row FREE + i, no row NONE.
-const FREE: usize = 256;
-
-const NONE: usize = 512;
 
 const SEEN_MAX: u32 = 4294967295;
 
@@ -108,21 +102,18 @@ fn used_of(n: usize) -> usize
     if ROWS_MAX < n { ROWS_MAX } else { n }
 }
 
-// What the search has found with the row at place i.
-fn nearer(found: usize, i: usize, row: Row, teid: u32) -> usize
-    requires { ⌜ i < 256 ⌝ }
-    ensures { λ r. ⌜ r ≡ nearer found i row teid ⌝ }
+// The row is free.
+fn is_free(row: Row) -> bool
+    ensures { λ r. ⌜ r ≡ free row ⌝ }
 {
-    if row.seen == 0 {
-        if found == NONE {
-            return FREE + i;
-        }
-        return found;
-    }
-    if row.teid == teid {
-        return i;
-    }
-    found
+    row.seen == 0
+}
+
+// The row is one of the TEID.
+fn is_of(row: Row, teid: u32) -> bool
+    ensures { λ r. ⌜ r ≡ ofTeid teid row ⌝ }
+{
+    (row.seen != 0) & (row.teid == teid)
 }
 
 // Offers one number: finds the row that serves, and stores the one updated record.
@@ -130,23 +121,31 @@ pub fn offer(rows: &mut [Row], teid: u32, number: u16) -> u64
     ensures { λ r. ⌜ (r, now (rows .exit)) ≡ offer (now (rows .entry)) teid number ⌝ }
 {
     let n = used_of(rows.len());
-    let mut found = NONE;
-    let mut i = 0;
-    while (i < n) & (FREE <= found) {
-        found = nearer(found, i, rows[i], teid);
-        i += 1;
+    let mut own = 0;
+    while own < n {
+        if is_of(rows[own], teid) {
+            break;
+        }
+        own += 1;
     }
-    if found < FREE {
-        let row = rows[found];
+    if own < n {
+        let row = rows[own];
         if row.seen == SEEN_MAX {
             return 26;
         }
-        rows[found] = counted(row, number);
+        rows[own] = counted(row, number);
         return 0;
     }
-    if found == NONE {
-        return 25;
+    let mut place = 0;
+    while place < n {
+        if is_free(rows[place]) {
+            break;
+        }
+        place += 1;
     }
-    rows[found - FREE] = started(teid, number);
-    0
+    if place < n {
+        rows[place] = started(teid, number);
+        return 0;
+    }
+    25
 }
