@@ -5,6 +5,7 @@ ghost use lib.ListN.{length};
 ghost use Rattle.rules.specs.Answer.{packed, overlay};
 ghost use Rattle.rules.specs.Calls.{translate6, translate4};
 ghost use Rattle.rules.specs.Fault.{fault};
+ghost use Rattle.loss.specs.Loss.{offer};
 
 // The IPv6 call.
 #[no_mangle]
@@ -39,4 +40,12 @@ pub extern "C" fn kawsarpa_table_fault(table: &[u8]) -> u64
     ensures { λ r. ⌜ r ≡ fault (now (table .entry)) ⌝ }
 {
     table::fault(table)
+}
+
+// An offer of a sequence number to the rows, of which one is changed at most.
+#[no_mangle]
+pub extern "C" fn kawsarpa_loss_offer(rows: &mut [loss::Row], teid: u32, number: u16) -> u64
+    ensures { λ r. ⌜ (r, now (rows .exit)) ≡ offer (now (rows .entry)) teid number ⌝ }
+{
+    loss::offer(rows, teid, number)
 }

@@ -128,7 +128,7 @@ pub fn offer(rows: &mut [Row], teid: u32, number: u16) -> u64
         }
         own += 1;
     }
-    if own < n {
+    if own != n {
         let row = rows[own];
         if row.seen == SEEN_MAX {
             return 26;
@@ -143,7 +143,7 @@ pub fn offer(rows: &mut [Row], teid: u32, number: u16) -> u64
         }
         place += 1;
     }
-    if place < n {
+    if place != n {
         rows[place] = started(teid, number);
         return 0;
     }

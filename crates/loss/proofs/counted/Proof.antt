@@ -38,20 +38,21 @@ unfolding counted
 returns c =
     let s = c .before .before .before .before in
     let p = above (d s) (small s) (test s true (c .before .before .before .if1 .taken)) in
-    rw (arrives s ∙ new-at (d s) (small s) (p .0) (p .1)) (cc)
+    rw (arrives s ∙ new-at (d s) (small s) (p .0) (p .1)) cc
 
 returns-2 : tie.Need-returns-2
 unfolding counted
 returns-2 c =
     let s = c .before .before .before .before in
-    rw (arrives s ∙ repeated-at (d s) (small s) (sym (bits s) ∙ c .before .before .if2 .taken)) (cc)
+    rw (arrives s ∙ repeated-at (d s) (small s) (sym (bits s) ∙ c .before .before .if2 .taken)) cc
 
 returns-3 : tie.Need-returns-3
 unfolding counted
 returns-3 c =
     let s = c .before .before .before .before in
-    let p = not-above (d s) (small s) (test s false (c .before .before .before .if1 .left)) (λ e. c .before .before .if2 .left (bits s ∙ e)) in
-    rw (arrives s ∙ late-at (d s) (small s) p) (cc)
+    let other : d s ≡ 0 → ⊥ = λ e. c .before .before .if2 .left (bits s ∙ e) in
+    let p = not-above (d s) (small s) (test s false (c .before .before .before .if1 .left)) other in
+    rw (arrives s ∙ late-at (d s) (small s) p) cc
 
 pub counted-spec : {M : Type 1} → statement M
 counted-spec =
