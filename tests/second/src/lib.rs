@@ -8,8 +8,8 @@
 //! - [`outgoing`]: what is written;
 //! - [`loss`], [`sequence`]: lost sequence numbers, and the readers of those numbers;
 //! - [`answer`]: the answer numbers and the packed answer;
-//! - [`generate`], [`coverage`], [`vectors`], [`worked`], [`trips`], [`program`]: cases
-//!   and checks;
+//! - [`generate`], [`coverage`], [`tally`], [`vectors`], [`worked`], [`trips`],
+//!   [`program`]: cases and checks;
 //! - [`command`]: what the programs share.
 
 pub mod answer;

@@ -4,8 +4,6 @@
 pub mod coverage;
 pub mod histories;
 
-use std::fmt;
-
 /// Rows past so many are not used.
 pub const MOST_ROWS: usize = 256;
 /// Octets of a row.
@@ -102,6 +100,20 @@ impl Row {
             && highest % 65_536 == (u128::from(self.highest) + 1) % 65_536
     }
 
+    /// Each field with its name.
+    pub fn fields(&self) -> [(&'static str, u64); 8] {
+        [
+            ("teid", self.teid.into()),
+            ("first", self.first.into()),
+            ("highest", self.highest.into()),
+            ("seen", self.seen.into()),
+            ("new", self.new.into()),
+            ("repeated", self.repeated.into()),
+            ("late", self.late.into()),
+            ("lost", self.lost),
+        ]
+    }
+
     /// The struct as it lies on x86-64: little-endian.
     pub fn octets(&self) -> [u8; ROW_LENGTH] {
         let mut octets = [0; ROW_LENGTH];
@@ -128,23 +140,6 @@ impl Row {
             late: word(20),
             lost: u64::from(word(24)) | u64::from(word(28)) << 32,
         }
-    }
-}
-
-impl fmt::Display for Row {
-    fn fmt(&self, f: &mut fmt::Formatter<'_>) -> fmt::Result {
-        write!(
-            f,
-            "teid {:08x} first {} highest {} seen {} new {} repeated {} late {} lost {}",
-            self.teid,
-            self.first,
-            self.highest,
-            self.seen,
-            self.new,
-            self.repeated,
-            self.late,
-            self.lost
-        )
     }
 }
 

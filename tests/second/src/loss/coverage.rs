@@ -143,6 +143,7 @@ pub fn collect(seed: u64, cases: u64) -> Result<Tally, String> {
         let history = histories::history(seed, index);
         history
             .check()
+            .and_then(|()| history.check_laws())
             .map_err(|why| format!("seed {seed} history {index}: {why}"))?;
         add(&mut tally, &history);
     }
