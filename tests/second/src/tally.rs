@@ -2,12 +2,11 @@
 
 use std::fmt;
 
-/// What is counted. A place of the table that can be met, or an edge, and was not is a gap.
+/// The table: what stands at its left and above it, and what can be met.
 pub struct Shape {
     pub corner: &'static str,
     pub lines: &'static [&'static str],
     pub columns: &'static [&'static str],
-    pub edges: &'static [&'static str],
     pub can_occur: fn(line: &str, column: &str) -> bool,
 }
 
@@ -15,7 +14,8 @@ pub struct Shape {
 pub struct Tally {
     shape: &'static Shape,
     table: Vec<Vec<u64>>,
-    edges: Vec<u64>,
+    /// In the order in which each case names them.
+    edges: Vec<(&'static str, u64)>,
 }
 
 impl Tally {
@@ -23,16 +23,25 @@ impl Tally {
         Tally {
             shape,
             table: vec![vec![0; shape.columns.len()]; shape.lines.len()],
-            edges: vec![0; shape.edges.len()],
+            edges: Vec::new(),
         }
     }
 
-    /// One case: the line and column where it belongs, and which edges it met, all in the order
-    /// of the shape.
-    pub fn add(&mut self, line: usize, column: usize, edges: &[bool]) {
-        assert_eq!(edges.len(), self.edges.len());
+    /// One case: its place in the table, and of every edge whether it was met.
+    pub fn add(&mut self, line: &str, column: &str, edges: &[(&'static str, bool)]) {
+        let place = |names: &[&str], name: &str| {
+            let place = names.iter().position(|&known| known == name);
+            place.expect("a name of the shape")
+        };
+        let (line, column) = (
+            place(self.shape.lines, line),
+            place(self.shape.columns, column),
+        );
         self.table[line][column] += 1;
-        for (count, &met) in self.edges.iter_mut().zip(edges) {
+        if self.edges.is_empty() {
+            self.edges = edges.iter().map(|&(name, _)| (name, 0)).collect();
+        }
+        for ((_, count), &(_, met)) in self.edges.iter_mut().zip(edges) {
             *count += u64::from(met);
         }
     }
@@ -42,7 +51,8 @@ impl Tally {
         self.table.iter().flatten().sum()
     }
 
-    /// An error that names every gap, and every place that cannot be met and was.
+    /// An error that names every gap, which is what can be met and was not, and what was met
+    /// and cannot be.
     pub fn judge(&self) -> Result<(), String> {
         let mut findings = Vec::new();
         for (line, counts) in self.shape.lines.iter().zip(&self.table) {
@@ -52,8 +62,8 @@ impl Tally {
                 }
             }
         }
-        for (edge, &count) in self.shape.edges.iter().zip(&self.edges) {
-            if count == 0 {
+        for (edge, count) in &self.edges {
+            if *count == 0 {
                 findings.push(format!("{edge}: 0"));
             }
         }
@@ -70,7 +80,6 @@ impl fmt::Display for Tally {
             corner,
             lines,
             columns,
-            edges,
             can_occur,
         } = self.shape;
         write!(f, "{corner:>9}")?;
@@ -88,7 +97,7 @@ impl fmt::Display for Tally {
                 }
             }
         }
-        for (edge, &count) in edges.iter().zip(&self.edges) {
+        for (edge, count) in &self.edges {
             match count {
                 0 => write!(f, "\n{:>9} {edge}", "GAP")?,
                 _ => write!(f, "\n{count:>9} {edge}")?,
@@ -106,19 +115,18 @@ mod tests {
         corner: "legs",
         lines: &["cat", "bird"],
         columns: &["two", "four"],
-        edges: &["asleep"],
         can_occur: |line, column| (line == "cat") == (column == "four"),
     };
 
     #[test]
     fn gaps_and_strays_are_found() {
         let mut tally = Tally::new(&SHAPE);
-        tally.add(0, 1, &[false]);
+        tally.add("cat", "four", &[("asleep", false)]);
         let why = tally.judge().unwrap_err();
         assert_eq!(why, "not as it should be: bird with two: 0; asleep: 0");
-        tally.add(1, 0, &[true]);
+        tally.add("bird", "two", &[("asleep", true)]);
         assert_eq!(tally.judge(), Ok(()));
-        tally.add(1, 1, &[false]);
+        tally.add("bird", "four", &[("asleep", false)]);
         let why = tally.judge().unwrap_err();
         assert_eq!(why, "not as it should be: bird with four: 1");
         assert_eq!(tally.cases(), 3);

@@ -8,51 +8,19 @@ pub static SHAPE: Shape = Shape {
     corner: "rows",
     lines: &["taken", "new", "repeated", "late", "25", "26"],
     columns: &["0", "1", "2 to 254", "255", "256", "257", "more"],
-    edges: &[
-        "late at -32,768",
-        "late at -32,767",
-        "late at -1",
-        "new at 1",
-        "new at 2",
-        "new at 32,766",
-        "new at 32,767",
-        "new, the number below the highest",
-        "late, the number above the highest",
-        "new wraps",
-        "repeated wraps",
-        "late wraps",
-        "lost wraps",
-        "seen becomes 4,294,967,295",
-        "taken by TEID 0",
-        "the lowest row taken",
-        "the 256th row taken",
-        "a row taken in which other octets stood",
-        "taken, a row past the 256th is of the TEID",
-        "in a row of TEID 0",
-        "in the 256th row",
-        "in a row behind a free one",
-        "in a row behind a free one with the TEID",
-        "in a row before another of the TEID",
-        "25, a row past the 256th is of the TEID",
-        "25, a row past the 256th is free",
-        "26 behind a free row",
-        "26 before a free row",
-        "26 before another row of the TEID",
-        "26, a row past the 256th is of the TEID",
-    ],
     // Without rows nothing is counted.
     can_occur: |line, column| column != "0" || line == "25",
 };
 
-fn column(rows: usize) -> usize {
+fn column(rows: usize) -> &'static str {
     match rows {
-        0 => 0,
-        1 => 1,
-        2..=254 => 2,
-        255 => 3,
-        256 => 4,
-        257 => 5,
-        _ => 6,
+        0 => "0",
+        1 => "1",
+        2..=254 => "2 to 254",
+        255 => "255",
+        256 => "256",
+        257 => "257",
+        _ => "more",
     }
 }
 
@@ -92,7 +60,8 @@ fn add_offer(tally: &mut Tally, before: &[Row], offer: &Offer, after: &[Row]) {
     let repeated = own && is.repeated != was.repeated;
     let late = own && is.late != was.late;
     let outcomes = [taken, new, repeated, late, none, full];
-    let line = outcomes.iter().position(|&met| met).expect("an outcome");
+    let mut lines = SHAPE.lines.iter().zip(outcomes);
+    let (line, _) = lines.find(|&(_, met)| met).expect("an outcome");
 
     let apart = distance(was.highest, number);
     let free = |rows: &[Row]| rows.iter().any(Row::is_free);
@@ -102,36 +71,60 @@ fn add_offer(tally: &mut Tally, before: &[Row], offer: &Offer, after: &[Row]) {
         line,
         column(before.len()),
         &[
-            late && apart == -32_768,
-            late && apart == -32_767,
-            late && apart == -1,
-            new && apart == 1,
-            new && apart == 2,
-            new && apart == 32_766,
-            new && apart == 32_767,
-            new && number < was.highest,
-            late && number > was.highest,
-            new && is.new == 0,
-            repeated && is.repeated == 0,
-            late && is.late == 0,
-            new && is.lost < was.lost,
-            own && is.seen == MOST_SEEN,
-            taken && teid == 0,
-            taken && at == 0,
-            taken && at == MOST_ROWS - 1,
-            taken && was != Row::default(),
-            taken && of_teid(past),
-            own && teid == 0,
-            own && at == MOST_ROWS - 1,
-            own && free(front),
-            own && front.iter().any(free_with_teid),
-            own && of_teid(behind),
-            none && of_teid(past),
-            none && free(past),
-            full && free(front),
-            full && free(behind),
-            full && of_teid(behind),
-            full && of_teid(past),
+            ("late at -32,768", late && apart == -32_768),
+            ("late at -32,767", late && apart == -32_767),
+            ("late at -1", late && apart == -1),
+            ("new at 1", new && apart == 1),
+            ("new at 2", new && apart == 2),
+            ("new at 32,766", new && apart == 32_766),
+            ("new at 32,767", new && apart == 32_767),
+            (
+                "new, the number below the highest",
+                new && number < was.highest,
+            ),
+            (
+                "late, the number above the highest",
+                late && number > was.highest,
+            ),
+            ("new wraps", new && is.new == 0),
+            ("repeated wraps", repeated && is.repeated == 0),
+            ("late wraps", late && is.late == 0),
+            ("lost wraps", new && is.lost < was.lost),
+            ("seen becomes 4,294,967,295", own && is.seen == MOST_SEEN),
+            ("taken by TEID 0", taken && teid == 0),
+            ("the lowest row taken", taken && at == 0),
+            ("the 256th row taken", taken && at == MOST_ROWS - 1),
+            (
+                "a row taken in which other octets stood",
+                taken && was != Row::default(),
+            ),
+            (
+                "taken, a row past the 256th is of the TEID",
+                taken && of_teid(past),
+            ),
+            ("in a row of TEID 0", own && teid == 0),
+            ("in the 256th row", own && at == MOST_ROWS - 1),
+            ("in a row behind a free one", own && free(front)),
+            (
+                "in a row behind a free one with the TEID",
+                own && front.iter().any(free_with_teid),
+            ),
+            (
+                "in a row before another of the TEID",
+                own && of_teid(behind),
+            ),
+            (
+                "25, a row past the 256th is of the TEID",
+                none && of_teid(past),
+            ),
+            ("25, a row past the 256th is free", none && free(past)),
+            ("26 behind a free row", full && free(front)),
+            ("26 before a free row", full && free(behind)),
+            ("26 before another row of the TEID", full && of_teid(behind)),
+            (
+                "26, a row past the 256th is of the TEID",
+                full && of_teid(past),
+            ),
         ],
     );
 }
