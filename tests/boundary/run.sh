@@ -36,8 +36,13 @@ step cases 19 "$boundary" cases --seed 1 --cases 1000000 --threads 2
 step faults 5 "$boundary" faults --seed 1 --cases 200000
 step trips 7 "$boundary" trips --seed 1 --cases 20000
 step threads 1 "$boundary" threads --seed 1 --cases 2000
-step stack 4 "$boundary" stack
-# seed 2 has every answer number among its first 8,100 cases, and every condition among its first 4,000 tables
+step loss 38 "$boundary" loss --seed 1 --offers 1000000
+step sequence 24 "$boundary" sequence --seed 1 --cases 300000
+step stack 7 "$boundary" stack
+# seed 2 has every answer number among its first 8,100 cases, every condition among its first 4,000 tables, and no gap among its first
+# 20,000 offers and 10,000 packets
 step "cases under valgrind" 1 "${memcheck[@]}" "$boundary" cases --seed 2 --cases 10000 --threads 1
 step "faults under valgrind" 1 "${memcheck[@]}" "$boundary" faults --seed 2 --cases 10000
 step "trips under valgrind" 2 "${memcheck[@]}" "$boundary" trips --seed 2 --cases 200
+step "loss under valgrind" 1 "${memcheck[@]}" "$boundary" loss --seed 2 --offers 20000
+step "sequence under valgrind" 1 "${memcheck[@]}" "$boundary" sequence --seed 2 --cases 10000

@@ -1,18 +1,23 @@
-/* Reads lines of `second vectors` from standard input, makes each call through the library and compares the answer, the octets sent and
-   every other octet of the output with what the line expects. Status 0: no difference; 1: a difference, or a line that is not one. */
+/* Reads lines of `second vectors`, `second loss-vectors` and `second sequence-vectors` from standard input and makes their calls through
+   the library. Compared are, of a case, the answer, the octets sent and every other octet of the output; of a history, each answer and,
+   in the end, every octet of the rows; of a reader, what it gives. Status 0: no difference; 1: a difference, or a line that is not one. */
 #include "hex.h"
 #include "kawsarpa.h"
 
+#include <limits.h>
 #include <stdio.h>
 #include <stdlib.h>
 #include <string.h>
 
-enum { FIELDS = 11, MARGIN = 64, SHOWN = 5 };
+enum { FIELDS = 11, MARGIN = 64, ROWS = 512, MARGIN_ROWS = 2, SHOWN = 5 };
 
-/* The fields of a line, in order. */
+/* The fields of a line, in order; those of a loss line and of a sequence line. */
 enum { KIND, CALL, NUMBER, ICMP_TYPE, ICMP_CODE, ICMP_POINTER, LENGTH, ROOM, PACKET, TABLE, OUT };
+enum { LOSS_BEFORE = 1, LOSS_OFFERS, LOSS_AFTER, LOSS_FIELDS };
+enum { SEQUENCE_CALL = 1, SEQUENCE_VALUE, SEQUENCE_PACKET, SEQUENCE_FIELDS };
 
 static uint8_t packet[1 << 17], table[1 << 17], expected[1 << 17], out[(1 << 17) + MARGIN];
+static struct kawsarpa_loss_row rows[ROWS + MARGIN_ROWS];
 static char line[1 << 20];
 
 static uint8_t filler(size_t i)
@@ -20,15 +25,14 @@ static uint8_t filler(size_t i)
     return (uint8_t)(i * 7 + 3);
 }
 
+/* How many fields there are; a field too many counts, but is not kept. */
 static int split(char *text, char *fields[FIELDS])
 {
     int n = 0;
-    for (char *f = strtok(text, " \n"); f != NULL; f = strtok(NULL, " \n")) {
-        if (n == FIELDS)
-            return 0;
-        fields[n++] = f;
-    }
-    return n == FIELDS;
+    for (char *f = strtok(text, " \n"); f != NULL; f = strtok(NULL, " \n"), n++)
+        if (n < FIELDS)
+            fields[n] = f;
+    return n;
 }
 
 static int equals(unsigned long value, const char *field)
@@ -36,8 +40,13 @@ static int equals(unsigned long value, const char *field)
     return value == strtoul(field, NULL, 10);
 }
 
-/* 1: as expected, 0: a difference, -1: no line of vectors. */
-static int try_line(char *fields[FIELDS])
+static int is_call(const char *field)
+{
+    return strcmp(field, "ipv6") == 0 || strcmp(field, "ipv4") == 0;
+}
+
+/* The tries of a line: 1: as expected, 0: a difference, -1: no line of vectors. */
+static int try_case(char *fields[FIELDS])
 {
     const long packet_len = hex_octets(fields[PACKET], packet, sizeof packet);
     const long table_len = hex_octets(fields[TABLE], table, sizeof table);
@@ -45,14 +54,15 @@ static int try_line(char *fields[FIELDS])
     const size_t room = strtoul(fields[ROOM], NULL, 10);
     const int ipv6 = strcmp(fields[CALL], "ipv6") == 0;
     uint64_t answer;
-    if (packet_len < 0 || table_len < 0 || length < 0 || room > sizeof out - MARGIN || (!ipv6 && strcmp(fields[CALL], "ipv4") != 0))
+    if (packet_len < 0 || table_len < 0 || length < 0 || room > sizeof out - MARGIN || !is_call(fields[CALL]))
         return -1;
     for (size_t i = 0; i < room + MARGIN; i++)
         out[i] = filler(i);
     answer = ipv6 ? kawsarpa_call_ipv6(packet, (size_t)packet_len, table, (size_t)table_len, out, room)
                   : kawsarpa_call_ipv4(packet, (size_t)packet_len, table, (size_t)table_len, out, room);
     if (!equals(kawsarpa_answer_number(answer), fields[NUMBER]) || !equals(kawsarpa_answer_icmp_type(answer), fields[ICMP_TYPE]) ||
-        !equals(kawsarpa_answer_icmp_code(answer), fields[ICMP_CODE]) || !equals(kawsarpa_answer_icmp_pointer(answer), fields[ICMP_POINTER]) ||
+        !equals(kawsarpa_answer_icmp_code(answer), fields[ICMP_CODE]) ||
+        !equals(kawsarpa_answer_icmp_pointer(answer), fields[ICMP_POINTER]) ||
         !equals(kawsarpa_answer_length(answer), fields[LENGTH]) || kawsarpa_answer_length(answer) != (size_t)length)
         return 0;
     if (memcmp(out, expected, (size_t)length) != 0)
@@ -63,22 +73,84 @@ static int try_line(char *fields[FIELDS])
     return 1;
 }
 
+/* Offers are TEID:NUMBER:ANSWER, the TEID in hexadecimal digits, with commas between. */
+static int try_loss(char *fields[FIELDS])
+{
+    uint8_t *octets = (uint8_t *)rows;
+    const long before = hex_octets(fields[LOSS_BEFORE], octets, ROWS * sizeof rows[0]);
+    const long after = hex_octets(fields[LOSS_AFTER], expected, sizeof expected);
+    const size_t length = (size_t)before;
+    char *at = fields[LOSS_OFFERS];
+    if (before < 0 || after != before || length % sizeof rows[0] != 0)
+        return -1;
+    for (size_t i = 0; i < MARGIN_ROWS * sizeof rows[0]; i++)
+        octets[length + i] = filler(i);
+    for (;; at++) {
+        const unsigned long teid = strtoul(at, &at, 16);
+        const unsigned long number = *at == ':' ? strtoul(at + 1, &at, 10) : ULONG_MAX;
+        const unsigned long answer = *at == ':' ? strtoul(at + 1, &at, 10) : ULONG_MAX;
+        if (teid > UINT32_MAX || number > UINT16_MAX || answer == ULONG_MAX || (*at != ',' && *at != 0))
+            return -1;
+        if (kawsarpa_call_loss_offer(rows, length / sizeof rows[0], (uint32_t)teid, (uint16_t)number) != answer)
+            return 0;
+        if (*at == 0)
+            break;
+    }
+    if (memcmp(octets, expected, length) != 0)
+        return 0;
+    for (size_t i = 0; i < MARGIN_ROWS * sizeof rows[0]; i++)
+        if (octets[length + i] != filler(i))
+            return 0;
+    return 1;
+}
+
+static int try_sequence(char *fields[FIELDS])
+{
+    const long packet_len = hex_octets(fields[SEQUENCE_PACKET], packet, sizeof packet);
+    char *end;
+    const uint64_t value = strtoul(fields[SEQUENCE_VALUE], &end, 16);
+    if (packet_len < 0 || *end != 0 || !is_call(fields[SEQUENCE_CALL]))
+        return -1;
+    return value == (strcmp(fields[SEQUENCE_CALL], "ipv6") == 0 ? kawsarpa_call_sequence_ipv6(packet, (size_t)packet_len)
+                                                                : kawsarpa_call_sequence_ipv4(packet, (size_t)packet_len));
+}
+
+static int try_line(char *fields[FIELDS], int n)
+{
+    if (n == LOSS_FIELDS && strcmp(fields[KIND], "loss") == 0)
+        return try_loss(fields);
+    if (n == SEQUENCE_FIELDS && strcmp(fields[KIND], "sequence") == 0)
+        return try_sequence(fields);
+    return n == FIELDS ? try_case(fields) : -1;
+}
+
+/* What a difference is about, in one line. */
+static void show(unsigned long number, char *fields[FIELDS], int n)
+{
+    if (n == FIELDS)
+        fprintf(stderr, "vectors: case %lu differs: %s, expected answer %s and length %s\n", number, fields[KIND], fields[NUMBER],
+                fields[LENGTH]);
+    else
+        fprintf(stderr, "vectors: case %lu differs: %s\n", number, fields[KIND]);
+}
+
 int main(void)
 {
     unsigned long cases = 0, differences = 0;
     while (fgets(line, sizeof line, stdin) != NULL) {
         char *fields[FIELDS];
-        int as_expected;
+        int n, as_expected;
         if (line[0] == '#')
             continue;
         cases++;
-        as_expected = split(line, fields) ? try_line(fields) : -1;
+        n = split(line, fields);
+        as_expected = try_line(fields, n);
         if (as_expected < 0) {
             fprintf(stderr, "vectors: case %lu is not a line of vectors\n", cases);
             return 1;
         }
         if (as_expected == 0 && ++differences <= SHOWN)
-            fprintf(stderr, "vectors: case %lu differs: %s, expected answer %s and length %s\n", cases, fields[KIND], fields[NUMBER], fields[LENGTH]);
+            show(cases, fields, n);
     }
     printf("vectors: %lu cases, %lu differences\n", cases, differences);
     return cases == 0 || differences != 0;

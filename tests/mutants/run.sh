@@ -1,5 +1,5 @@
 #!/usr/bin/env bash
-# run.sh LIB [NAME...]: changes the rules of the second program in one place at a time and expects the library's answers to show each change.
+# run.sh LIB [NAME...]: changes the rules of the second program in one place at a time and expects the library's answers to show it.
 # run.sh --list: the names.
 set -eu -o pipefail
 
@@ -93,6 +93,8 @@ build || { cat "$work/build" >&2 && fail "the second program was not built"; }
     "$program" vectors --seed 1 --per-kind 2000
     "$program" vectors --seed 5 --per-kind 600 --max-packet 2500
     "$program" vectors --seed 3 --per-kind 400 --max-packet 65600
+    "$program" loss-vectors --seed 1 --cases 2000
+    "$program" sequence-vectors --seed 1 --cases 8000
 } >"$work/lines"
 said=$("$program" check <"$work/lines") || fail "the second program disagrees with its own lines"
 echo "the second program: $said"

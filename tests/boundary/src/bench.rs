@@ -1,7 +1,8 @@
 //! Calls in buffers that lie at inaccessible pages.
 
-use crate::raw::{self, Export, Input, Pages, Side, MOST};
-use second::{Answer, Call};
+use crate::library::{self, Export};
+use crate::raw::{self, Input, Pages, Side, MOST};
+use second::{sequence, Answer, Call};
 
 /// The exports that answer a call.
 pub fn exports(call: Call) -> &'static [Export] {
@@ -85,14 +86,21 @@ impl Bench {
     }
 
     /// Makes the call by each of its exports, with inputs that end at
-    /// inaccessible pages and with inputs that begin behind some. The answer and
-    /// the octets are those of the first; [`Bench::fault`] has what differed.
+    /// inaccessible pages and with inputs that begin behind some, and has the
+    /// sequence number of the packet read. The answer and the octets are those of
+    /// the first; [`Bench::fault`] has what differed.
     pub fn call(&mut self, call: Call, packet: &[u8], table: &[u8], out: &mut [u8]) -> u64 {
         let before = out.to_vec();
+        let number = sequence::read(call, packet);
         let mut first = None;
         for side in [Side::End, Side::Start] {
             self.packet.set(packet, side);
             self.table.set(table, side);
+            let read = library::sequence(call, self.packet.octets());
+            if read != number {
+                let name = library::reader_name(call);
+                self.blame(Err(format!("{name} gives {read:016x}, not {number:016x}")));
+            }
             for &export in exports(call) {
                 let mut octets = before.clone();
                 let (packed, kept) = self.output.call(

@@ -1,13 +1,14 @@
 //! Cases through the library, by the number or for a time.
 
 use crate::bench::Bench;
+use crate::loss::{self, Rows};
 use crate::mutate;
 use crate::place::Place;
 use crate::progress::{Progress, INTERVAL};
 use crate::raw;
 use second::coverage::Coverage;
+use second::loss::histories;
 use second::{generate, Answer, Case};
-use std::fmt;
 use std::sync::atomic::{AtomicU64, Ordering};
 use std::sync::mpsc::{self, RecvTimeoutError, Sender};
 use std::thread;
@@ -24,6 +25,8 @@ pub struct Work {
     pub threads: u64,
     /// Mutated cases beside each one that is generated.
     pub mutations: u64,
+    /// Whether a history of offers goes with each block of cases.
+    pub histories: bool,
     /// The first index that is left out.
     pub end: u64,
     pub deadline: Option<Instant>,
@@ -31,32 +34,28 @@ pub struct Work {
 
 pub struct Outcome {
     pub cases: u64,
+    pub histories: u64,
     pub differences: u64,
     /// Of what the library answered.
     pub coverage: Coverage,
     pub seconds: u64,
 }
 
-pub struct Difference {
-    place: Place,
-    case: Case,
-    pub found: Answer,
-    why: String,
+/// A difference in words.
+fn difference(place: Place, case: &Case, found: Answer, why: &str) -> String {
+    format!(
+        "{place} ({}): {why}\n  expected: {}\n  found:    {found}\n  run again: {}",
+        case.kind.name(),
+        case.answer,
+        place.command()
+    )
 }
 
-impl fmt::Display for Difference {
-    fn fmt(&self, f: &mut fmt::Formatter<'_>) -> fmt::Result {
-        writeln!(
-            f,
-            "{} ({}): {}",
-            self.place,
-            self.case.kind.name(),
-            self.why
-        )?;
-        writeln!(f, "  expected: {}", self.case.answer)?;
-        writeln!(f, "  found:    {}", self.found)?;
-        write!(f, "  run again: {}", self.place.command())
-    }
+/// What was done, by all threads together.
+#[derive(Default)]
+struct Done {
+    cases: AtomicU64,
+    histories: AtomicU64,
 }
 
 /// What the library answers, and what is wrong with it.
@@ -72,26 +71,18 @@ pub fn judge(bench: &mut Bench, place: Place, case: &Case) -> (Answer, Vec<u8>, 
     (found, octets, checked.and(bench.fault()).err())
 }
 
-fn work(
-    work: &Work,
-    next: &AtomicU64,
-    done: &AtomicU64,
-    differences: Sender<Difference>,
-) -> Coverage {
+fn work(work: &Work, next: &AtomicU64, done: &Done, differences: Sender<String>) -> Coverage {
     let mut bench = Bench::new();
+    let mut rows = Rows::new();
     let mut coverage = Coverage::default();
+    // The receiver outlives the threads.
+    let send = |difference| differences.send(difference).unwrap_or_default();
     let mut one = |place, case: Case| {
         let (found, _, wrong) = judge(&mut bench, place, &case);
         coverage.add(case.kind, found.number);
-        done.fetch_add(1, Ordering::Relaxed);
+        done.cases.fetch_add(1, Ordering::Relaxed);
         if let Some(why) = wrong {
-            // The receiver outlives the threads.
-            let _ = differences.send(Difference {
-                place,
-                case,
-                found,
-                why,
-            });
+            send(difference(place, &case, found, &why));
         }
     };
     let seed = work.seed;
@@ -116,6 +107,13 @@ fn work(
             }
             one(place(0), case);
         }
+        if work.histories {
+            let index = first / BLOCK;
+            let history = histories::history(seed, index);
+            let judged = loss::one(&mut rows, Place::History { seed, index }, &history);
+            done.histories.fetch_add(1, Ordering::Relaxed);
+            judged.unwrap_or_else(send);
+        }
         if first + BLOCK >= work.end {
             return coverage;
         }
@@ -124,7 +122,7 @@ fn work(
 
 impl Work {
     pub fn run(&self) -> Outcome {
-        let (next, done) = (AtomicU64::new(0), AtomicU64::new(0));
+        let (next, done) = (AtomicU64::new(0), Done::default());
         let (sender, receiver) = mpsc::channel();
         let mut progress = Progress::new();
         let mut differences = 0;
@@ -149,7 +147,7 @@ impl Work {
                     Err(RecvTimeoutError::Disconnected) => break,
                 }
                 progress.say(|| {
-                    let done = done.load(Ordering::Relaxed);
+                    let done = done.cases.load(Ordering::Relaxed);
                     let (command, seed) = (self.command, self.seed);
                     format!(
                         "boundary {command}: seed {seed}, {done} cases, {differences} differences"
@@ -164,7 +162,8 @@ impl Work {
             }
         });
         Outcome {
-            cases: done.into_inner(),
+            cases: done.cases.into_inner(),
+            histories: done.histories.into_inner(),
             differences,
             coverage,
             seconds: progress.seconds(),

@@ -1,5 +1,6 @@
 //! Tables through `kawsarpa_table_fault`, judged by the second program.
 
+use crate::library;
 use crate::place::Place;
 use crate::raw::{self, Input, Side};
 use second::fault::{self, Faults};
@@ -16,7 +17,7 @@ pub fn run(seed: u64, indices: Range<u64>) -> Result<Faults, String> {
         let expected = fault::fault(&table);
         for side in [Side::End, Side::Start] {
             input.set(&table, side);
-            let found = raw::table_fault(input.octets());
+            let found = library::table_fault(input.octets());
             if found != expected {
                 let again = place.command();
                 return Err(format!(

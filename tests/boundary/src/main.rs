@@ -5,88 +5,29 @@
 mod bench;
 mod cases;
 mod faults;
+mod help;
+#[allow(unsafe_code)]
+mod library;
+mod loss;
 mod mutate;
 mod place;
 mod progress;
 #[allow(unsafe_code)]
 mod raw;
+mod sequence;
 mod stack;
 mod threads;
 mod trips;
 
 use cases::Work;
+use library::Export;
 use place::Place;
 use second::command::{self, Failure, Options};
 use second::coverage::Coverage;
-use second::vectors;
-use std::io::{self, Write};
+use second::{vectors, Call};
+use std::io::Write;
 use std::process::ExitCode;
 use std::time::{Duration, Instant, SystemTime, UNIX_EPOCH};
-
-const ABOUT: &str =
-    "boundary - the library across its C boundary, judged by the second program\n\nusage:\n";
-const STATUS: &str =
-    "exit status: 0 all well, 1 a difference, a gap or a call that crashes, 2 wrong usage\n";
-
-/// Each command with its options and its help.
-const COMMANDS: [(&str, &[&str], &str); 7] = [
-    (
-        "cases",
-        &["--seed", "--cases", "--threads"],
-        "  boundary cases --seed N --cases M [--threads T]
-      make the calls of the first M cases of a seed, on T threads (as many as there
-      are processors if not given); print how often the library gave each answer
-      number at each kind
-",
-    ),
-    (
-        "case",
-        &["--seed", "--index", "--mutation"],
-        "  boundary case --seed N --index I [--mutation K]
-      make one call and print both answers, in words and octets
-",
-    ),
-    (
-        "faults",
-        &["--seed", "--cases", "--first"],
-        "  boundary faults --seed N --cases M [--first I]
-      ask for the fault of M tables, sound ones and others, from table I on (0 if
-      not given); print how often the library told each condition
-",
-    ),
-    (
-        "trips",
-        &["--seed", "--cases", "--first"],
-        "  boundary trips --seed N --cases M [--first I]
-      make the calls of M whole trips, each followed by two second trips, from trip
-      I on (0 if not given), and those of flow 5 with the reflective bit
-",
-    ),
-    (
-        "threads",
-        &["--seed", "--cases", "--first", "--threads"],
-        "  boundary threads --seed N --cases M [--first I] [--threads T]
-      for M cases from I on, call on T threads (2 if not given) at the same time,
-      which share the table and packets
-",
-    ),
-    (
-        "stack",
-        &["--seed", "--per-kind"],
-        "  boundary stack [--seed N] [--per-kind K]
-      measure the stack that each export uses over K cases (300 if not given) of
-      each kind, in which every answer number occurs
-",
-    ),
-    (
-        "fuzz",
-        &["--seconds", "--seed", "--threads"],
-        "  boundary fuzz --seconds S [--seed N] [--threads T]
-      make calls for S seconds, of cases and of mutated cases; without a seed, one
-      is taken from the clock
-",
-    ),
-];
 
 /// Mutated cases beside each generated one of `fuzz`.
 const MUTATIONS: u64 = 7;
@@ -99,23 +40,6 @@ const TRIES_PER_CASE: u64 = 20_000;
 /// It is also less than a call would use if the array by way of which
 /// `octets::copy_block` copies, 2,048 octets, were there in the object code.
 const STACK_BOUND: usize = 2048;
-
-fn help(out: &mut dyn Write, wanted: Option<&str>) -> io::Result<()> {
-    out.write_all(if wanted.is_none() { ABOUT } else { "usage:\n" }.as_bytes())?;
-    for (name, _, text) in COMMANDS {
-        if wanted.is_none_or(|wanted| wanted == name) {
-            out.write_all(text.as_bytes())?;
-        }
-    }
-    if wanted.is_none() {
-        out.write_all(b"  boundary [COMMAND] --help\n")?;
-    }
-    write!(out, "\n{STATUS}")
-}
-
-fn is_help(word: &str) -> bool {
-    word == "--help" || word == "-h"
-}
 
 /// A count of which 0 would show nothing.
 fn count(options: &Options, name: &str, default: Option<u64>) -> Result<u64, Failure> {
@@ -151,14 +75,17 @@ fn run(words: &[String], out: &mut dyn Write) -> Result<(), Failure> {
     let Some((command, rest)) = words.split_first() else {
         return Err(Failure::Usage("no command".to_string()));
     };
-    if is_help(command) || command == "help" {
-        return Ok(help(out, None)?);
+    if help::is_asked(command) || command == "help" {
+        return Ok(help::write(out, None)?);
     }
-    let Some((name, known, _)) = COMMANDS.into_iter().find(|(name, ..)| name == command) else {
+    let Some((name, known, _)) = help::COMMANDS
+        .into_iter()
+        .find(|(name, ..)| name == command)
+    else {
         return Err(Failure::Usage(format!("unknown command {command}")));
     };
-    if rest.iter().any(|word| is_help(word)) {
-        return Ok(help(out, Some(name))?);
+    if rest.iter().any(|word| help::is_asked(word)) {
+        return Ok(help::write(out, Some(name))?);
     }
     let options = &Options::parse(rest, known)?;
     raw::report_faults();
@@ -166,6 +93,8 @@ fn run(words: &[String], out: &mut dyn Write) -> Result<(), Failure> {
         "cases" => run_cases(options, out),
         "case" => run_case(options, out),
         "faults" => run_faults(options, out),
+        "loss" => run_loss(options, out),
+        "sequence" => run_sequence(options, out),
         "trips" => run_trips(options, out),
         "threads" => run_threads(options, out),
         "stack" => run_stack(options, out),
@@ -181,6 +110,7 @@ fn run_cases(options: &Options, out: &mut dyn Write) -> Result<(), Failure> {
         seed,
         threads: thread_count(options, processors())?,
         mutations: 0,
+        histories: false,
         end: cases,
         deadline: None,
     }
@@ -206,11 +136,17 @@ fn run_fuzz(options: &Options, out: &mut dyn Write) -> Result<(), Failure> {
         seed,
         threads,
         mutations: MUTATIONS,
+        histories: true,
         end: u64::MAX,
         deadline: Some(deadline),
     }
     .run();
-    report(&format!("seed {seed}"), &outcome, out)
+    let histories = outcome.histories;
+    report(
+        &format!("seed {seed}, {histories} histories of offers"),
+        &outcome,
+        out,
+    )
 }
 
 fn report(what: &str, outcome: &cases::Outcome, out: &mut dyn Write) -> Result<(), Failure> {
@@ -281,6 +217,42 @@ fn run_faults(options: &Options, out: &mut dyn Write) -> Result<(), Failure> {
     Ok(())
 }
 
+fn run_loss(options: &Options, out: &mut dyn Write) -> Result<(), Failure> {
+    let seed = options.get("--seed")?;
+    let offers = count(options, "--offers", None)?;
+    let first = options.get_or("--first", 0);
+    let (tally, histories) = loss::run(seed, first, offers).map_err(Failure::Check)?;
+    writeln!(out, "{tally}")?;
+    // One history alone is looked at again, and does not meet everything.
+    if histories > 1 {
+        tally.judge().map_err(Failure::Check)?;
+    }
+    writeln!(
+        out,
+        "seed {seed}: {} offers in {histories} histories, each row as it should be after each",
+        tally.cases()
+    )?;
+    Ok(())
+}
+
+fn run_sequence(options: &Options, out: &mut dyn Write) -> Result<(), Failure> {
+    let seed = options.get("--seed")?;
+    let cases = count(options, "--cases", None)?;
+    let first = options.get_or("--first", 0);
+    let indices = first..first.saturating_add(cases);
+    let tally = sequence::run(seed, indices).map_err(Failure::Check)?;
+    writeln!(out, "{tally}")?;
+    // One packet alone is looked at again.
+    if cases > 1 {
+        tally.judge().map_err(Failure::Check)?;
+    }
+    writeln!(
+        out,
+        "seed {seed}: {cases} packets, each number read as it should be"
+    )?;
+    Ok(())
+}
+
 fn run_trips(options: &Options, out: &mut dyn Write) -> Result<(), Failure> {
     let seed = options.get("--seed")?;
     let cases = count(options, "--cases", None)?;
@@ -328,16 +300,25 @@ fn run_stack(options: &Options, out: &mut dyn Write) -> Result<(), Failure> {
         coverage.add(case.kind, case.answer.number);
     }
     coverage.judge().map_err(Failure::Check)?;
-    let deepest = stack::measure(seed, &cases).map_err(Failure::Check)?;
+    let others = per_kind.saturating_mul(20);
+    let offers = second::loss::coverage::collect(seed, others).map_err(Failure::Check)?;
+    offers.judge().map_err(Failure::Check)?;
+    let packets = second::sequence::coverage::collect(seed, others);
+    packets.judge().map_err(Failure::Check)?;
+    let of_exports = Export::ALL.map(|export| stack::of_export(export, seed, &cases));
+    let of_readers = [Call::Ipv6, Call::Ipv4].map(|call| stack::of_reader(call, seed, others));
+    let all = of_exports
+        .into_iter()
+        .chain([stack::of_offers(seed, others)]);
+    let deepest: Vec<_> = all
+        .chain(of_readers)
+        .collect::<Result<_, _>>()
+        .map_err(Failure::Check)?;
     for most in &deepest {
         writeln!(
             out,
-            "{}: at most {} octets of stack in {} calls; at {}: {}",
-            most.export.name(),
-            most.octets,
-            most.calls,
-            most.place,
-            most.answer
+            "{}: at most {} octets of stack in {} calls; at {}",
+            most.name, most.octets, most.calls, most.at
         )?;
     }
     match deepest.iter().find(|most| most.octets > STACK_BOUND) {
@@ -347,8 +328,7 @@ fn run_stack(options: &Options, out: &mut dyn Write) -> Result<(), Failure> {
         )?),
         Some(most) => Err(Failure::Check(format!(
             "{} used {} octets of stack, more than {STACK_BOUND}",
-            most.export.name(),
-            most.octets
+            most.name, most.octets
         ))),
     }
 }

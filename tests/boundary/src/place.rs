@@ -19,6 +19,16 @@ pub enum Place {
         seed: u64,
         index: u64,
     },
+    /// Rows and what is offered to them.
+    History {
+        seed: u64,
+        index: u64,
+    },
+    /// A packet for a reader of sequence numbers.
+    Reading {
+        seed: u64,
+        index: u64,
+    },
     /// The trip by this name.
     Flow5,
     /// The table and packets that threads share.
@@ -43,6 +53,8 @@ impl fmt::Display for Place {
             } => write!(f, "seed {seed} index {index} mutation {mutation}"),
             Place::Trip { seed, index } => write!(f, "seed {seed} trip {index}"),
             Place::Table { seed, index } => write!(f, "seed {seed} table {index}"),
+            Place::History { seed, index } => write!(f, "seed {seed} history {index}"),
+            Place::Reading { seed, index } => write!(f, "seed {seed} packet {index}"),
             Place::Flow5 => write!(f, "flow 5 with the reflective bit"),
             Place::Shared { seed, index } => write!(f, "seed {seed} shared case {index}"),
         }
@@ -77,6 +89,15 @@ impl fmt::Display for Command {
             }
             Place::Table { seed, index } => {
                 write!(f, "boundary faults --seed {seed} --first {index} --cases 1")
+            }
+            Place::History { seed, index } => {
+                write!(f, "boundary loss --seed {seed} --first {index} --offers 1")
+            }
+            Place::Reading { seed, index } => {
+                write!(
+                    f,
+                    "boundary sequence --seed {seed} --first {index} --cases 1"
+                )
             }
             Place::Flow5 => write!(f, "boundary trips --seed 1 --cases 1"),
             Place::Shared { seed, index } => write!(

@@ -1,44 +1,11 @@
-//! All that is unsafe: the library's functions, pages with inaccessible ones
-//! around them, a call on another stack, faults, and what valgrind is told.
+//! Pages with inaccessible ones around them, faults, and what valgrind is told.
 
 use crate::place::Place;
+use second::loss::{MOST_ROWS, ROW_LENGTH};
 use std::arch::asm;
 use std::cell::Cell;
 use std::ffi::{c_char, c_int, c_long, c_uint};
 use std::io::Write;
-
-type Function = unsafe extern "C" fn(*const u8, usize, *const u8, usize, *mut u8, usize) -> u64;
-
-/// `include/kawsarpa.h`.
-mod library {
-    extern "C" {
-        pub fn kawsarpa_translate_ipv6(
-            packet: *const u8,
-            packet_len: usize,
-            table: *const u8,
-            table_len: usize,
-            out: *mut u8,
-            out_len: usize,
-        ) -> u64;
-        pub fn kawsarpa_translate_ipv4(
-            packet: *const u8,
-            packet_len: usize,
-            table: *const u8,
-            table_len: usize,
-            out: *mut u8,
-            out_len: usize,
-        ) -> u64;
-        pub fn kawsarpa_waypoint(
-            packet: *const u8,
-            packet_len: usize,
-            table: *const u8,
-            table_len: usize,
-            out: *mut u8,
-            out_len: usize,
-        ) -> u64;
-        pub fn kawsarpa_table_fault(table: *const u8, table_len: usize) -> u64;
-    }
-}
 
 /// Linux on x86-64, for which the library is.
 mod system {
@@ -69,83 +36,6 @@ mod system {
         pub fn signal(number: c_int, handler: extern "C" fn(c_int)) -> usize;
         pub fn write(file: c_int, octets: *const u8, count: usize) -> isize;
         pub fn _exit(status: c_int) -> !;
-    }
-}
-
-/// The fault of a table.
-pub fn table_fault(table: &[u8]) -> u64 {
-    // SAFETY: a slice is what the header asks for: not null, valid for its count.
-    unsafe { library::kawsarpa_table_fault(table.as_ptr(), table.len()) }
-}
-
-/// A call that the library exports.
-#[derive(Clone, Copy, Debug, PartialEq, Eq)]
-pub enum Export {
-    Ipv6,
-    Ipv4,
-    Waypoint,
-}
-
-impl Export {
-    pub const ALL: [Export; 3] = [Export::Ipv6, Export::Ipv4, Export::Waypoint];
-
-    pub fn name(self) -> &'static str {
-        match self {
-            Export::Ipv6 => "kawsarpa_translate_ipv6",
-            Export::Ipv4 => "kawsarpa_translate_ipv4",
-            Export::Waypoint => "kawsarpa_waypoint",
-        }
-    }
-
-    fn function(self) -> Function {
-        match self {
-            Export::Ipv6 => library::kawsarpa_translate_ipv6,
-            Export::Ipv4 => library::kawsarpa_translate_ipv4,
-            Export::Waypoint => library::kawsarpa_waypoint,
-        }
-    }
-
-    pub fn call(self, packet: &[u8], table: &[u8], out: &mut [u8]) -> u64 {
-        let (packet_len, table_len, out_len) = (packet.len(), table.len(), out.len());
-        // SAFETY: slices are what the header asks for: not null, valid for their
-        // counts, the output apart from the others, which do not change.
-        unsafe {
-            self.function()(
-                packet.as_ptr(),
-                packet_len,
-                table.as_ptr(),
-                table_len,
-                out.as_mut_ptr(),
-                out_len,
-            )
-        }
-    }
-
-    /// The call with the stack pointer at the end of these octets.
-    pub fn call_on(self, stack: &mut Pages, packet: &[u8], table: &[u8], out: &mut [u8]) -> u64 {
-        let top = stack.octets().as_mut_ptr_range().end;
-        let answer: u64;
-        // SAFETY: as in `call`. The pages end at a multiple of 16 as the ABI asks,
-        // r12 keeps the old stack pointer because a callee preserves it, and a
-        // call that needs more stack than they have meets the pages before them.
-        unsafe {
-            asm!(
-                "xchg rsp, r12",
-                "call {function}",
-                "mov rsp, r12",
-                function = in(reg) self.function(),
-                inout("r12") top => _,
-                in("rdi") packet.as_ptr(),
-                in("rsi") packet.len(),
-                in("rdx") table.as_ptr(),
-                in("rcx") table.len(),
-                in("r8") out.as_mut_ptr(),
-                in("r9") out.len(),
-                lateout("rax") answer,
-                clobber_abi("C"),
-            );
-        }
-        answer
     }
 }
 
@@ -324,6 +214,24 @@ pub fn take_back(before: &[u8], out: &[u8], sent: usize) {
     tell(Memory::Checked, out.as_ptr(), sent.min(out.len()));
     tell(Memory::Defined, before.as_ptr(), before.len());
     tell(Memory::Defined, out.as_ptr(), out.len());
+}
+
+/// Before an offer: for valgrind the octets around the rows are out of bounds, and
+/// so are the rows past the last that is used.
+pub fn lend_rows(before: &[u8], rows: &[u8], behind: &[u8]) {
+    let past = rows.get(MOST_ROWS * ROW_LENGTH..).unwrap_or(&[]);
+    for octets in [before, past, behind] {
+        tell(Memory::Inaccessible, octets.as_ptr(), octets.len());
+    }
+}
+
+/// After an offer: what is in use has to be defined; then all may be looked at.
+pub fn take_back_rows(before: &[u8], rows: &[u8], behind: &[u8]) {
+    let used = rows.len().min(MOST_ROWS * ROW_LENGTH);
+    tell(Memory::Checked, rows.as_ptr(), used);
+    for octets in [before, rows, behind] {
+        tell(Memory::Defined, octets.as_ptr(), octets.len());
+    }
 }
 
 thread_local! {

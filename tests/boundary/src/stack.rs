@@ -2,9 +2,12 @@
 //! that it wrote says how deep it went.
 
 use crate::bench::exports;
+use crate::library::{self, Export};
 use crate::place::Place;
-use crate::raw::{self, Export, Pages};
-use second::{Answer, Case};
+use crate::raw::{self, Pages};
+use second::loss::{histories, ROW_LENGTH};
+use second::sequence::cases as readings;
+use second::{Call, Case};
 
 /// Two paints, because an octet may be written as it was painted.
 const PAINTS: [u8; 2] = [0x00, 0xa5];
@@ -12,68 +15,111 @@ const PAINTS: [u8; 2] = [0x00, 0xa5];
 /// Octets of the painted stack; a call that needs more faults.
 const SIZE: usize = 1 << 16;
 
+/// The deepest call of a function.
 pub struct Deepest {
-    pub export: Export,
+    pub name: &'static str,
     /// Octets from the caller's stack pointer down, the return address with them.
     pub octets: usize,
     pub calls: usize,
-    pub place: Place,
-    pub answer: Answer,
+    /// Where that was.
+    pub at: String,
 }
 
-/// The deepest call of each export. An error if a call does not answer as it
+/// What an export did, in cases of a seed. An error if a call does not answer as it
 /// should: what was measured would be another call.
-pub fn measure(seed: u64, cases: &[(u64, Case)]) -> Result<Vec<Deepest>, String> {
-    let mut stack = Pages::new(SIZE);
-    Export::ALL
-        .into_iter()
-        .map(|export| {
-            let mut deepest = Deepest {
-                export,
+pub fn of_export(export: Export, seed: u64, cases: &[(u64, Case)]) -> Result<Deepest, String> {
+    let mut gauge = Gauge::new(export.name());
+    for (index, case) in cases {
+        if !exports(case.call).contains(&export) {
+            continue;
+        }
+        let place = Place::Case {
+            seed,
+            index: *index,
+            mutation: 0,
+        };
+        let at = || format!("{place}: {}", case.answer);
+        gauge.measure(place, 1, at, |stack| {
+            case.check_by(|_, packet, table, out| export.call_on(stack, packet, table, out))
+        })?;
+    }
+    Ok(gauge.deepest)
+}
+
+/// The same of offers, in the first histories of a seed.
+pub fn of_offers(seed: u64, count: u64) -> Result<Deepest, String> {
+    let mut gauge = Gauge::new(library::LOSS_OFFER);
+    let mut pages = Pages::new(SIZE);
+    for index in 0..count {
+        let place = Place::History { seed, index };
+        let history = histories::history(seed, index);
+        let rows = &mut pages.octets()[..ROW_LENGTH * history.rows.len()];
+        let at = || place.to_string();
+        gauge.measure(place, history.offers.len(), at, |stack| {
+            history.check_by(rows, |rows, teid, number| {
+                library::loss_offer_on(stack, rows, teid, number)
+            })
+        })?;
+    }
+    Ok(gauge.deepest)
+}
+
+/// The same of a reader of sequence numbers, in the first packets of a seed.
+pub fn of_reader(call: Call, seed: u64, count: u64) -> Result<Deepest, String> {
+    let mut gauge = Gauge::new(library::reader_name(call));
+    for index in 0..count {
+        let reading = readings::reading(seed, index);
+        if reading.call != call {
+            continue;
+        }
+        let place = Place::Reading { seed, index };
+        let at = || format!("{place}: {:016x}", reading.sequence);
+        gauge.measure(place, 1, at, |stack| {
+            reading.check_by(|call, packet| library::sequence_on(stack, call, packet))
+        })?;
+    }
+    Ok(gauge.deepest)
+}
+
+struct Gauge {
+    stack: Pages,
+    deepest: Deepest,
+}
+
+impl Gauge {
+    fn new(name: &'static str) -> Self {
+        Gauge {
+            stack: Pages::new(SIZE),
+            deepest: Deepest {
+                name,
                 octets: 0,
                 calls: 0,
-                place: Place::Case {
-                    seed,
-                    index: 0,
-                    mutation: 0,
-                },
-                answer: Answer::default(),
-            };
-            for (index, case) in cases {
-                if !exports(case.call).contains(&export) {
-                    continue;
-                }
-                let place = Place::Case {
-                    seed,
-                    index: *index,
-                    mutation: 0,
-                };
-                raw::runs(place);
-                deepest.calls += 1;
-                let octets = depth(&mut stack, export, case)
-                    .map_err(|why| format!("{place}, {}: {why}", export.name()))?;
-                if octets > deepest.octets {
-                    deepest.octets = octets;
-                    deepest.place = place;
-                    deepest.answer = case.answer;
-                }
-            }
-            Ok(deepest)
-        })
-        .collect()
-}
-
-fn depth(stack: &mut Pages, export: Export, case: &Case) -> Result<usize, String> {
-    let mut deepest = 0;
-    for paint in PAINTS {
-        stack.octets().fill(paint);
-        case.check_by(|_, packet, table, out| export.call_on(stack, packet, table, out))?;
-        let untouched = stack
-            .octets()
-            .iter()
-            .take_while(|&&octet| octet == paint)
-            .count();
-        deepest = deepest.max(SIZE - untouched);
+                at: String::new(),
+            },
+        }
     }
-    Ok(deepest)
+
+    /// So many calls, on the stack that `run` is given.
+    fn measure(
+        &mut self,
+        place: Place,
+        calls: usize,
+        at: impl Fn() -> String,
+        mut run: impl FnMut(&mut Pages) -> Result<(), String>,
+    ) -> Result<(), String> {
+        let Gauge { stack, deepest } = self;
+        raw::runs(place);
+        deepest.calls += calls;
+        for paint in PAINTS {
+            stack.octets().fill(paint);
+            run(stack).map_err(|why| format!("{place}, {}: {why}", deepest.name))?;
+            let octets = stack.octets().iter();
+            let untouched = octets.take_while(|&&octet| octet == paint).count();
+            if SIZE - untouched > deepest.octets {
+                deepest.octets = SIZE - untouched;
+                deepest.at = at();
+            }
+        }
+        Ok(())
+    }
 }

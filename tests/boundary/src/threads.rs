@@ -1,11 +1,12 @@
 //! Threads that share a table and packets, each with an output of its own.
 
 use crate::bench::exports;
+use crate::library;
 use crate::mutate;
 use crate::place::Place;
 use crate::progress::Progress;
 use crate::raw::{self, Input, Pages, Side, MOST};
-use second::{generate, Case};
+use second::{generate, sequence, Case};
 use std::ops::Range;
 use std::sync::atomic::{AtomicU64, Ordering};
 use std::sync::Barrier;
@@ -42,9 +43,13 @@ pub fn run(seed: u64, indices: Range<u64>, threads: u64) -> Result<Tally, String
             packet.set(&case.packet, Side::End);
         }
         let place = Place::Shared { seed, index };
+        let numbers = cases
+            .iter()
+            .map(|case| sequence::read(case.call, &case.packet));
         let shared = Shared {
             place,
             cases: &cases,
+            numbers: numbers.collect(),
             packets: &packets,
             table: &table,
             start: Barrier::new(outputs.len()),
@@ -78,6 +83,8 @@ pub fn run(seed: u64, indices: Range<u64>, threads: u64) -> Result<Tally, String
 struct Shared<'a> {
     place: Place,
     cases: &'a [Case],
+    /// What the readers of sequence numbers give for the packets.
+    numbers: Vec<u64>,
     packets: &'a [Input],
     table: &'a Input,
     start: Barrier,
@@ -117,18 +124,23 @@ impl Shared<'_> {
             let case = &self.cases[number];
             let of_call = exports(case.call);
             let export = of_call[(step / self.cases.len()) % of_call.len()];
-            let mut others = 0;
+            let (mut others, mut read) = (0, 0);
             let checked = case.check_by(|_, _, _, out| {
                 let own = &mut output.octets()[MOST - out.len()..];
                 own.copy_from_slice(out);
                 let (packet, table) = (self.packets[number].octets(), self.table.octets());
                 others += self.inside.fetch_add(1, Ordering::Relaxed);
                 let packed = export.call(packet, table, own);
+                read = library::sequence(case.call, packet);
                 others += self.inside.fetch_sub(1, Ordering::Relaxed) - 1;
                 out.copy_from_slice(own);
                 packed
             });
-            checked.map_err(|why| {
+            let numbered = match self.numbers[number] {
+                wanted if wanted == read => Ok(()),
+                wanted => Err(format!("number read {read:016x}; expected {wanted:016x}")),
+            };
+            checked.and(numbered).map_err(|why| {
                 let place = self.place;
                 format!(
                     "{place}, packet {number} of {}, {}: {why}\n  run again: {}",

@@ -60,11 +60,8 @@ pub struct GPdu<'a> {
 
 /// Rows 10 to 13 in their order.
 pub fn parse(octets: &[u8], direction: Direction) -> Result<GPdu<'_>, Refusal> {
-    let header = Header::read(octets).ok_or(Refusal::GtpuHeader)?;
-    if header.message_type != G_PDU {
-        return Err(Refusal::GtpuType);
-    }
-    let (container, inner) = walk_extensions(header.first_extension, header.rest)?;
+    let header = Header::of_g_pdu(octets)?;
+    let (container, inner) = header.extensions()?;
     match container {
         Some(c) if c.is_of(direction) => Ok(GPdu {
             args: c.args(direction, header.teid),
@@ -74,15 +71,32 @@ pub fn parse(octets: &[u8], direction: Direction) -> Result<GPdu<'_>, Refusal> {
     }
 }
 
-struct Header<'a> {
+#[derive(Clone, Copy, Debug)]
+pub struct Header<'a> {
+    pub flags: u8,
     message_type: u8,
-    teid: u32,
+    pub teid: u32,
+    pub sequence_number: Option<u16>,
     /// 0 if there is none.
     first_extension: u8,
     rest: &'a [u8],
 }
 
 impl<'a> Header<'a> {
+    /// Rows 10 and 11.
+    pub fn of_g_pdu(octets: &'a [u8]) -> Result<Self, Refusal> {
+        let header = Self::read(octets).ok_or(Refusal::GtpuHeader)?;
+        match header.message_type {
+            G_PDU => Ok(header),
+            _ => Err(Refusal::GtpuType),
+        }
+    }
+
+    /// The container, if there is one, and what follows the extensions; row 12.
+    pub fn extensions(&self) -> Result<(Option<Container>, &'a [u8]), Refusal> {
+        walk_extensions(self.first_extension, self.rest)
+    }
+
     /// Row 10: cut short, not version 1 or PT 1, or the length disagrees.
     fn read(octets: &'a [u8]) -> Option<Self> {
         let mut reader = Reader::new(octets);
@@ -91,12 +105,15 @@ impl<'a> Header<'a> {
         let length = reader.u16()?;
         let teid = reader.u32()?;
         let counted = reader.rest().len();
-        let mut first_extension = 0;
+        let (mut sequence_number, mut first_extension) = (None, 0);
         if flags & (flag::E | flag::S | flag::PN) != 0 {
-            let _sequence_number = reader.u16()?;
+            let number = reader.u16()?;
             let _n_pdu_number = reader.u8()?;
             let next_type = reader.u8()?;
-            // The next type counts only if E is set.
+            // Any of the three brings all four octets; each field counts with its own flag only.
+            if flags & flag::S != 0 {
+                sequence_number = Some(number);
+            }
             if flags & flag::E != 0 {
                 first_extension = next_type;
             }
@@ -105,8 +122,10 @@ impl<'a> Header<'a> {
             && flags & flag::PT != 0
             && usize::from(length) == counted;
         sound.then_some(Header {
+            flags,
             message_type,
             teid,
+            sequence_number,
             first_extension,
             rest: reader.rest(),
         })

@@ -147,6 +147,14 @@ impl<'a> HeaderChain<'a> {
         }
     }
 
+    /// Row 7 at D, Di and E4.
+    pub fn require_segments_left_0(&self) -> Result<(), Refusal> {
+        match self.srh {
+            Some(srh) if srh.segments_left != 0 => Err(Refusal::SegmentsLeft),
+            _ => Ok(()),
+        }
+    }
+
     /// Row 8 with its pointer.
     pub fn upper_layer_error(&self) -> Refusal {
         Refusal::UpperLayer {

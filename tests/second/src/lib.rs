@@ -1,4 +1,4 @@
-//! A second implementation of the gateway rules, written from document 01,
+//! A second implementation of the gateway rules, written from documents 01 and 02,
 //! RFC 9433, the layout of the table octets and the C interface.
 //!
 //! - [`translate`]: the two calls, [`translate_ipv6`] and [`translate_ipv4`];
@@ -6,9 +6,10 @@
 //! - [`fault`]: which condition a table breaks first;
 //! - [`ipv6`], [`ipv4`], [`udp`], [`gtpu`], [`args`]: what is read;
 //! - [`outgoing`]: what is written;
+//! - [`loss`], [`sequence`]: lost sequence numbers, and the readers of those numbers;
 //! - [`answer`]: the answer numbers and the packed answer;
-//! - [`generate`], [`coverage`], [`vectors`], [`worked`], [`trips`], [`program`]: cases
-//!   and checks;
+//! - [`generate`], [`coverage`], [`tally`], [`vectors`], [`worked`], [`trips`],
+//!   [`program`]: cases and checks;
 //! - [`command`]: what the programs share.
 
 pub mod answer;
@@ -20,10 +21,13 @@ pub mod generate;
 pub mod gtpu;
 pub mod ipv4;
 pub mod ipv6;
+pub mod loss;
 pub mod outgoing;
 pub mod program;
 pub mod rng;
+pub mod sequence;
 pub mod table;
+pub mod tally;
 pub mod translate;
 pub mod trips;
 pub mod udp;

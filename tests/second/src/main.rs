@@ -1,7 +1,10 @@
 //! The command `second`.
 
 use second::command::{self, Failure, Options};
-use second::{coverage, generate, program, trips, vectors, worked, Kind};
+use second::loss::histories;
+use second::sequence::cases as readings;
+use second::tally::Tally;
+use second::{coverage, generate, loss, program, sequence, trips, vectors, worked, Kind};
 use std::io::{self, Write};
 use std::process::ExitCode;
 
@@ -17,8 +20,18 @@ usage:
       packet-hex table-hex out-hex; '-' is an empty field, '#' begins a comment
   second show --seed N --index I [--packet P]
       print case I of a seed, or packet P for its table, as a line of the same form
+  second loss-coverage --seed N --cases M
+      generate M histories of offers, print what the offers met
+  second loss-vectors --seed N --cases M [--first I]
+      print M histories from I on (0 if not given), a line each: loss rows-hex
+      offers rows-hex; an offer is teid:number:answer, a comma between two
+  second sequence-coverage --seed N --cases M
+      generate M packets for the readers of sequence numbers, print what they met
+  second sequence-vectors --seed N --cases M [--first I] [--max-packet L]
+      print those of M packets from I on that have at most L octets (400 if not
+      given), a line each: sequence call value packet-hex
   second check
-      read such lines from standard input and run them here
+      read lines of any of these forms from standard input and run them here
   second worked
       run the worked packets of document 01
   second program-input --seed N --per-kind K [--max-worked L]
@@ -94,6 +107,52 @@ fn run(words: &[String], out: &mut dyn Write) -> Result<(), Failure> {
             )?;
             writeln!(out, "{}", vectors::line(&case))?;
         }
+        "loss-coverage" => {
+            let options = Options::parse(rest, &["--seed", "--cases"])?;
+            let (seed, cases) = (options.get("--seed")?, options.get("--cases")?);
+            let tally = loss::coverage::collect(seed, cases).map_err(Failure::Check)?;
+            say_tally(out, &tally)?;
+            let offers = tally.cases();
+            writeln!(
+                out,
+                "seed {seed}: {offers} offers in {cases} histories, no gap"
+            )?;
+        }
+        "loss-vectors" => {
+            let options = Options::parse(rest, &["--seed", "--cases", "--first"])?;
+            let (seed, cases) = (options.get("--seed")?, options.get("--cases")?);
+            let first = options.get_or("--first", 0);
+            writeln!(out, "# seed {seed}, {cases} histories from {first} on")?;
+            writeln!(out, "# loss rows-hex teid:number:answer,... rows-hex")?;
+            for index in first..first.saturating_add(cases) {
+                let history = histories::history(seed, index);
+                writeln!(out, "{}", histories::line(&history))?;
+            }
+        }
+        "sequence-coverage" => {
+            let options = Options::parse(rest, &["--seed", "--cases"])?;
+            let (seed, cases) = (options.get("--seed")?, options.get("--cases")?);
+            say_tally(out, &sequence::coverage::collect(seed, cases))?;
+            writeln!(out, "seed {seed}: {cases} packets, no gap")?;
+        }
+        "sequence-vectors" => {
+            let known = ["--seed", "--cases", "--first", "--max-packet"];
+            let options = Options::parse(rest, &known)?;
+            let (seed, cases) = (options.get("--seed")?, options.get("--cases")?);
+            let first = options.get_or("--first", 0);
+            let max_packet = options.get_or("--max-packet", 400);
+            writeln!(
+                out,
+                "# seed {seed}, {cases} packets from {first} on, those of at most {max_packet} octets"
+            )?;
+            writeln!(out, "# sequence call value packet-hex")?;
+            for index in first..first.saturating_add(cases) {
+                let reading = readings::reading(seed, index);
+                if reading.packet.len() as u64 <= max_packet {
+                    writeln!(out, "{}", readings::line(&reading))?;
+                }
+            }
+        }
         "check" => {
             Options::parse(rest, &[])?;
             let (mut checked, mut differing, mut first) = (0, 0, None);
@@ -102,12 +161,12 @@ fn run(words: &[String], out: &mut dyn Write) -> Result<(), Failure> {
                 if line.is_empty() || line.starts_with('#') {
                     continue;
                 }
-                let case = vectors::parse(&line)
+                let (what, result) = check_line(&line)
                     .map_err(|why| Failure::Check(format!("line {number}: {why}")))?;
                 checked += 1;
-                if let Err(why) = case.check() {
+                if let Err(why) = result {
                     differing += 1;
-                    first.get_or_insert(format!("line {number}, {}: {why}", case.kind.name()));
+                    first.get_or_insert(format!("line {number}, {what}: {why}"));
                 }
             }
             if let Some(first) = first {
@@ -155,6 +214,23 @@ fn run(words: &[String], out: &mut dyn Write) -> Result<(), Failure> {
         other => return Err(Failure::Usage(format!("unknown command {other}"))),
     }
     Ok(())
+}
+
+fn say_tally(out: &mut dyn Write, tally: &Tally) -> Result<(), Failure> {
+    writeln!(out, "{tally}")?;
+    tally.judge().map_err(Failure::Check)
+}
+
+/// What a line is about, and whether it holds here. An error for what is no line.
+fn check_line(line: &str) -> Result<(&'static str, Result<(), String>), String> {
+    match line.split(' ').next() {
+        Some("loss") => Ok(("loss", histories::parse(line)?.check())),
+        Some("sequence") => Ok(("sequence", readings::parse(line)?.check())),
+        _ => {
+            let case = vectors::parse(line)?;
+            Ok((case.kind.name(), case.check()))
+        }
+    }
 }
 
 fn main() -> ExitCode {

@@ -169,7 +169,7 @@ impl<'a> Arriving<'a, '_> {
         places: Ipv4Places,
         source_port: u16,
     ) -> Result<Gtp4Packet<'a>, Refusal> {
-        self.require_segments_left_0()?;
+        self.chain.require_segments_left_0()?;
         let args = ArgsMobSession::read(self.packet.destination, places.p + 4);
         Ok(Gtp4Packet {
             tos: self.packet.traffic_class,
@@ -180,16 +180,8 @@ impl<'a> Arriving<'a, '_> {
         })
     }
 
-    /// Row 7 at D, Di and E4.
-    fn require_segments_left_0(&self) -> Result<(), Refusal> {
-        match self.chain.srh {
-            Some(srh) if srh.segments_left != 0 => Err(Refusal::SegmentsLeft),
-            _ => Ok(()),
-        }
-    }
-
     fn decapsulate(&self, session: Session) -> Result<Decapsulated<'a>, Refusal> {
-        self.require_segments_left_0()?;
+        self.chain.require_segments_left_0()?;
         decapsulate(
             self.chain.protocol,
             self.chain.upper,

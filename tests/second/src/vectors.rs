@@ -57,7 +57,8 @@ pub fn line(case: &Case) -> String {
     )
 }
 
-fn unhex(text: &str) -> Option<Vec<u8>> {
+/// The octets of such digits.
+pub fn unhex(text: &str) -> Option<Vec<u8>> {
     if text == "-" {
         return Some(Vec::new());
     }

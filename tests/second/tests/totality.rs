@@ -2,8 +2,9 @@
 //! no octet changed that is not the packet's. Built with overflow checks.
 
 use second::generate::{case, translate, Call};
+use second::loss::{self, Row};
 use second::rng::Rng;
-use second::Answer;
+use second::{sequence, Answer};
 
 fn run_both(packet: &[u8], table: &[u8], room: usize, filler: u8) {
     for call in [Call::Ipv6, Call::Ipv4] {
@@ -14,6 +15,7 @@ fn run_both(packet: &[u8], table: &[u8], room: usize, filler: u8) {
         assert!(length <= room);
         assert!(answer.number == 0 || length == 0);
         assert!(out[length..].iter().all(|&octet| octet == filler));
+        assert!(matches!(sequence::read(call, packet) >> 48, 0 | 1));
     }
 }
 
@@ -87,5 +89,24 @@ fn generated_cases_hold_over_any_output() {
         case(14, index)
             .check()
             .unwrap_or_else(|why| panic!("seed 14 index {index}: {why}"));
+    }
+}
+
+#[test]
+fn any_rows() {
+    let mut rng = Rng::new(15);
+    for _ in 0..2_000 {
+        let count = rng.pick(&[0, 1, 3, 256, 300]);
+        let row = |rng: &mut Rng| Row::of_octets(rng.octets(32).try_into().unwrap());
+        let before: Vec<Row> = (0..count).map(|_| row(&mut rng)).collect();
+        let teid = match before.len() {
+            0 => rng.u32(),
+            count => before[rng.below(count)].teid,
+        };
+        let mut after = before.clone();
+        let answer = loss::offer(&mut after, teid, rng.u16());
+        let changed = before.iter().zip(&after).filter(|(was, is)| was != is);
+        assert_eq!(changed.count(), usize::from(answer == 0));
+        assert!(matches!(answer, 0 | 25 | 26));
     }
 }
