@@ -35,10 +35,10 @@ onward : (s highest k number : ℕ) → s % 65536 ≡ highest → (highest + k +
 onward s highest k number e f = omega arith
 
 module _ (r : Row) (kept : Kept r) (number : ℕ) (room : r .seen < 4294967295) (small : number < 65536) where
-  new-fits : (r .new + 1) % 2 ^ 32 ≡ r .new + 1
+  pub new-fits : (r .new + 1) % 2 ^ 32 ≡ r .new + 1
   new-fits = let t = kept .total in mod-eq-of-lt (omega arith)
 
-  lost-fits : (k : ℕ) → k ≤ 32766 → (r .lost + k) % 2 ^ 64 ≡ r .lost + k
+  pub lost-fits : (k : ℕ) → k ≤ 32766 → (r .lost + k) % 2 ^ 64 ≡ r .lost + k
   lost-fits k h = let t = kept .total in let l = kept .lost-small in mod-eq-of-lt (omega arith)
 
   wide : (k : ℕ) → k ≤ 32766
@@ -110,7 +110,7 @@ module _ (r : Row) (teid number : ℕ) where
   unfolding offered
   offered-counted n f = rw (ne-eqb (r .seen) 0 n, ne-eqb (r .seen) 4294967295 f)
 
-  by-case : (P : ℕ × Row → Type 0) → (r .seen ≡ 0 → P (0, started teid number)) → (r .seen ≡ 4294967295 → P (26, r))
+  pub by-case : (P : ℕ × Row → Type 0) → (r .seen ≡ 0 → P (0, started teid number)) → (r .seen ≡ 4294967295 → P (26, r))
       → ((r .seen ≡ 0 → ⊥) → (r .seen ≡ 4294967295 → ⊥) → P (0, counted r number (arrivalOf (distance number (r .highest)))))
       → P (offered r teid number)
   by-case P empty whole counts =

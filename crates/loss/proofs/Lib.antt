@@ -5,3 +5,5 @@ pub mod Searching
 pub mod Offers
 pub mod Telling
 pub mod Histories
+pub mod Alone
+pub mod Meaning

@@ -71,15 +71,15 @@ module _ (number highest : ℕ) (small : number < 65536) (fits : highest < 65536
   abbrev d : ℕ
   d = (number + 65536 - highest) % 65536
 
-  new-is : (k : ℕ) → k ≤ 32766 → (highest + k + 1) % 65536 ≡ number → arrivalOf (distance number highest) ≡ New k
+  pub new-is : (k : ℕ) → k ≤ 32766 → (highest + k + 1) % 65536 ≡ number → arrivalOf (distance number highest) ≡ New k
   unfolding distance
   new-is k h e = let s : d ≡ k + 1 = omega arith in new-at d (omega arith) (omega arith) (omega arith) ∙ ap New (let t : d - 1 ≡ k = omega arith in t)
 
-  repeated-is : number ≡ highest → arrivalOf (distance number highest) ≡ Repeated
+  pub repeated-is : number ≡ highest → arrivalOf (distance number highest) ≡ Repeated
   unfolding distance
   repeated-is e = repeated-at d (omega arith) (omega arith)
 
-  late-is : (k : ℕ) → 1 ≤ k → k ≤ 32768 → (number + k) % 65536 ≡ highest → arrivalOf (distance number highest) ≡ Late
+  pub late-is : (k : ℕ) → 1 ≤ k → k ≤ 32768 → (number + k) % 65536 ≡ highest → arrivalOf (distance number highest) ≡ Late
   unfolding distance
   late-is k h l e = late-at d (omega arith) (omega arith)
 

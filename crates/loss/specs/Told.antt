@@ -70,6 +70,6 @@ pub data Answers (rows : List Row) (teid number : ℕ) : ℕ → List Row → Ty
       → Answers rows teid number 0 (set rows i r)
   begins : (i : ℕ) → NoOwn rows teid → Used rows i → rowAt rows i .seen ≡ 0 → ((j : ℕ) → j < i → 0 < rowAt rows j .seen)
       → Answers rows teid number 0
-        (set rows i record { teid = teid; first = number; highest = number; seen = 1; new = 1; repeated = 0; late = 0; lost = 0 })
+      (set rows i record { teid = teid; first = number; highest = number; seen = 1; new = 1; repeated = 0; late = 0; lost = 0 })
   noneFree : NoOwn rows teid → ((j : ℕ) → Used rows j → 0 < rowAt rows j .seen) → Answers rows teid number 25 rows
   isFull : (i : ℕ) → LowestOwn rows teid i → rowAt rows i .seen ≡ 4294967295 → Answers rows teid number 26 rows
