@@ -1,3 +1,5 @@
 pub mod Numbering
 pub mod Numbered
+pub mod Sending
+pub mod ReadingBack
 pub mod Testing
