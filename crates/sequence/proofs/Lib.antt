@@ -3,3 +3,4 @@ pub mod Numbered
 pub mod Sending
 pub mod ReadingBack
 pub mod Testing
+pub mod Samples
