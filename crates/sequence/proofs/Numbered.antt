@@ -1,16 +1,16 @@
 -- What Numbered.antt says of a packet holds exactly where a number is found, and the number is that of its octets.
 use mathlib.Core.Path.{_≡_, refl, sym, ap, _∙_, subst}
 use mathlib.Core.Logic.{_≢_}
+use mathlib.Core.Bool.{true}
 use mathlib.Core.List.{List}
 use Prim.Native.Nat.{ℕ, _+_, _*_, _/_, _%_, _≤_, _<_}
 use native.Mathlib.Omega.{arith}
 use native.Mathlib.Decide.{ℕ-discrete}
 use lib.ListN.{length, drop, length-drop}
 use lib.Seq.{getD-drop}
-use borrow.Author.Tests.{le-leb, lt-ltb, eq-eqb, ne-eqb}
+use borrow.Author.Tests.{le-leb, lt-ltb, eq-eqb, ne-eqb, eqb-true}
 use Rattle.rules.specs.Octets.{octet, Octets, window, read16, number}
 use Rattle.rules.specs.Ipv4 as Ipv4
-use Rattle.rules.specs.Gtpu as Gtpu
 use Rattle.rules.specs.Header.{header, malformed, badChain, segmentsRemain}
 use Rattle.rules.specs.Datagram.{datagram, notGtpu, messageRows}
 use Rattle.rules.specs.Carried.{datagramIn6, datagramIn4}
@@ -19,7 +19,7 @@ use Rattle.rules.specs.D4.{header4, gtp4Rows}
 use Rattle.rules.proofs.Windows.{octets-window}
 use Rattle.rules.proofs.Rows.{Clear, None, clear, read}
 use Rattle.rules.proofs.Checksums.{wordSum, fold, onesSum-fold}
-use Rattle.sequence.specs.Sequence.{rows9To11, gPduRows6, gPduRows4, teid, found, sequence6, sequence4}
+use Rattle.sequence.specs.Sequence.{rows9To11, gPduRows6, gPduRows4, numbered, foundIn, sequence6, sequence4}
 use Rattle.sequence.specs.Numbered.{GPduAt, Whole6, SpentSrh, UdpAt, Numbered6, headerWords, Numbered4, numberAt, Gives6, Gives4}
 use Rattle.sequence.proofs.Numbering.{passed-found, found-passed}
 
@@ -47,41 +47,45 @@ module _ (p : List ℕ) (at : ℕ) where
   read16-here : (i : ℕ) → read16 here i ≡ read16 p (at + i)
   read16-here i = let e : at + (i + 1) ≡ at + i + 1 = omega arith in rw (octet-here i, octet-here (i + 1), e)
 
-  passed-at : (protocol : ℕ) → Clear (notGtpu protocol (datagram here)) → None (rows9To11 (datagram here)) → Gtpu.sequenceFlag here ≡ 1
+  passed-at : (protocol : ℕ) → Clear (notGtpu protocol (datagram here)) → None (rows9To11 (datagram here)) → numbered here ≡ true
       → (protocol ≡ 17) × GPduAt p at
   unfolding datagram messageRows
   passed-at protocol t m s =
       let l = length-drop at p in
+      let k : octet here 8 / 2 % 2 ≡ 1 = omega (arith, eqb-true) in
       let f = rw (lt-ltb 0 (octet here 8 % 8) (omega arith)) at m in
-      let z : 8 ≤ length here = omega (read, m .0) in
+      let z : 8 ≤ length here = omega read in
       let q = rw (le-leb 8 (length here) z) at t in (
-        omega (read, t .0),
+        omega read,
         record {
-          size = omega (read, f, l);
-          destinationPort = omega (read, q, read16-here 2);
-          udpLength = omega (read, m .0, l, read16-here 4);
-          version = omega (read, m .1 .0, octet-here 8);
-          protocolType = omega (read, m .1 .0, octet-here 8);
-          sequenceFlag = omega (read, s, octet-here 8);
-          messageType = omega (read, m .1 .1, octet-here 9);
-          messageLength = omega (read, m .1 .0, l, read16-here 10);
+          size = omega read;
+          destinationPort = omega (read, read16-here 2);
+          udpLength = omega (read, read16-here 4);
+          version = omega (read, octet-here 8);
+          protocolType = omega (read, octet-here 8);
+          sequenceFlag = omega (arith, octet-here 8);
+          messageType = omega (read, octet-here 9);
+          messageLength = omega (read, read16-here 10);
         },
       )
 
   at-passed : (protocol : ℕ) → protocol ≡ 17 → GPduAt p at
-      → Clear (notGtpu protocol (datagram here)) × (None (rows9To11 (datagram here)) × (Gtpu.sequenceFlag here ≡ 1))
+      → Clear (notGtpu protocol (datagram here)) × (None (rows9To11 (datagram here)) × (numbered here ≡ true))
   unfolding datagram messageRows
   at-passed protocol u g =
       let l = length-drop at p in
       let f = octet-here 8 in
       let z : 8 ≤ length here = omega (arith, l, g .size) in
       let v : octet here 8 / 16 ≡ 3 = rw f (high-bits (octet p (at + 8)) (g .version) (g .protocolType)) in
-      let s : Gtpu.sequenceFlag here ≡ 1 = omega (arith, f, g .sequenceFlag) in (
+      let k : octet here 8 / 2 % 2 ≡ 1 = omega (arith, f, g .sequenceFlag) in (
         rw (le-leb 8 (length here) z) (omega (clear, u, read16-here 2, g .destinationPort)),
-        (rw (lt-ltb 0 (octet here 8 % 8) (omega arith)) (omega (clear, l, v, octet-here 9, read16-here 4, read16-here 10)), s),
+        (
+          rw (lt-ltb 0 (octet here 8 % 8) (omega arith)) (omega (clear, l, v, octet-here 9, read16-here 4, read16-here 10)),
+          omega (arith, eq-eqb, k),
+        ),
       )
 
-  found-here : found (teid here) (Gtpu.sequenceNumber here) ≡ numberAt p at
+  found-here : foundIn here ≡ numberAt p at
   unfolding window number
   found-here = omega (arith, octet-here 12, octet-here 13, octet-here 14, octet-here 15, octet-here 16, octet-here 17)
 
@@ -108,7 +112,7 @@ module _ (p : List ℕ) where
       ∙ found-here p (header p .upperAt)
       ∙ ap (numberAt p) (sym e)
 
-  passed-6 : None (gPduRows6 p) → Gtpu.sequenceFlag (datagramIn6 p) ≡ 1 → (at : ℕ) × Numbered6 p at
+  passed-6 : None (gPduRows6 p) → numbered (datagramIn6 p) ≡ true → (at : ℕ) × Numbered6 p at
   unfolding gPduRows6 gtp6Rows header
   passed-6 n s = go (ℕ-discrete (octet p 6) 43)
     where
@@ -120,7 +124,7 @@ module _ (p : List ℕ) where
           let q = eq-eqb (octet p 6) 43 e in
           let m = rw q at n in
           let (u, g) = passed-at p (48 + 8 * octet p 41) (octet p 40) (m .1 .1 .1 .0) (m .1 .1 .1 .1) (rw q at s) in
-          let s : SpentSrh p = record { nextHeader = u; routingType = omega (read, m .1 .0); segmentsLeft = omega (read, m .1 .1 .0) } in
+          let s : SpentSrh p = record { nextHeader = u; routingType = omega (read, m); segmentsLeft = omega (read, m) } in
           (48 + 8 * octet p 41, record { header = whole; upper = UdpAt.behindSrh e s refl; gPdu = g })
       go (no d) =
           let q = ne-eqb (octet p 6) 43 d in
@@ -161,7 +165,7 @@ module _ (p : List ℕ) (o : Octets p) where
       let l = n .gPdu .size in
       passed-found (gPduRows4 p) (datagramIn4 p) (omega clear, (omega clear, (t, m))) s ∙ found-here p 20
 
-  passed-4 : None (gPduRows4 p) → Gtpu.sequenceFlag (datagramIn4 p) ≡ 1 → Numbered4 p
+  passed-4 : None (gPduRows4 p) → numbered (datagramIn4 p) ≡ true → Numbered4 p
   unfolding gPduRows4 gtp4Rows header4
   passed-4 n s =
       let (u, g) = passed-at p 20 (octet p 9) (n .1 .1 .0) (n .1 .1 .1) s in

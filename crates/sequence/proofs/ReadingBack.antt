@@ -11,7 +11,8 @@ use Rattle.rules.specs.Answer.{Row, verdict}
 use Rattle.rules.specs.Header.{header}
 use Rattle.rules.specs.Carried.{datagramIn6, datagramIn4}
 use Rattle.rules.proofs.Windows.{octets-drop}
-use Rattle.sequence.specs.Sequence.{gPduRows6, gPduRows4, passes, numbered, teid, found, sequenceUnless, sequence6, sequence4}
+use Rattle.sequence.specs.Sequence.{gPduRows6, gPduRows4, passes, numbered, teid, found, foundIn}
+use Rattle.sequence.specs.Sequence.{sequenceUnless, sequence6, sequence4}
 use Rattle.sequence.specs.Numbered.{ReadBack}
 use Rattle.sequence.proofs.Numbering.{passed-found, found-passed}
 
@@ -37,7 +38,7 @@ module _ (rows : List Row) (u : List ℕ) (o : Octets u) where
   unfolding sequenceUnless
   below = go (passes (verdict rows) && numbered u)
     where
-      go : (b : Bool) → cond b (found (teid u) (Gtpu.sequenceNumber u)) 0 < 2 ^ 49
+      go : (b : Bool) → cond b (foundIn u) 0 < 2 ^ 49
       go true = omega (arith, teid-below u o, number-below u o)
       go false = omega arith
 

@@ -21,7 +21,7 @@ use Rattle.rules.specs.declared.Verdict.{Verdict}
 use Rattle.rules.specs.declared.Verdict.the-variants.{Pass, Refuse}
 use Rattle.rules.proofs.Windows.{window-drop}
 use Rattle.rules.proofs.Judging.{verdict-append, is-true, is-false}
-use Rattle.sequence.specs.Sequence.{rows9To11, gPduRows6, gPduRows4, passes, numbered, teid, found}
+use Rattle.sequence.specs.Sequence.{rows9To11, gPduRows6, gPduRows4, passes, numbered, teid, found, foundIn}
 use Rattle.sequence.specs.Sequence.{sequenceUnless, sequence6, sequence4}
 use Rattle.sequence.specs.Parts.{rows8To11, sequenceIn}
 
@@ -95,8 +95,8 @@ refused-alike : (u : List ℕ) (bs : List Bool) (ρ ρ′ : Refusal) (rs : List 
 unfolding sequenceUnless verdict
 refused-alike u bs ρ ρ′ rs = go (any bs)
   where
-    go : (b : Bool) → cond (passes (cond b (Refuse ρ) (verdict rs)) && numbered u) (found (teid u) (Gtpu.sequenceNumber u)) 0
-        ≡ cond (passes (cond b (Refuse ρ′) (verdict rs)) && numbered u) (found (teid u) (Gtpu.sequenceNumber u)) 0
+    go : (b : Bool) → cond (passes (cond b (Refuse ρ) (verdict rs)) && numbered u) (foundIn u) 0
+        ≡ cond (passes (cond b (Refuse ρ′) (verdict rs)) && numbered u) (foundIn u) 0
     go true = refl
     go false = refl
 
@@ -110,28 +110,26 @@ pub over-ipv4 : (protocol z : ℕ) (u : List ℕ) → z ≡ sequenceIn protocol 
 unfolding rows8To11
 over-ipv4 protocol z u e = e
 
+-- what is found by a header that was read
+abbrev pub seen6 : (p : List ℕ) → Header → ℕ
+seen6 p h =
+    let u = drop (h .upperAt) p in
+    sequenceUnless (row (malformed h) 2 ∷ (gtp6Rows h (datagram u) ++ rows9To11 (datagram u))) u
+
+abbrev pub seen4 : (p : List ℕ) → Header4 → ℕ
+seen4 p h =
+    let u = drop 20 p in
+    sequenceUnless (row (malformed4 h) 2 ∷ row (badHeader4 h) 3 ∷ (gtp4Rows h (datagram u) ++ rows9To11 (datagram u))) u
+
 -- a header by its first octets
 module _ (p f : List ℕ) (z : ℕ) where
-  pub header-seen : (h : Header) → f ≡ window p 0 48 → h ≡ headerOf f (length p)
-      → (let u = drop (h .upperAt) p in z ≡ sequenceUnless (row (malformed h) 2 ∷ (gtp6Rows h (datagram u) ++ rows9To11 (datagram u))) u)
-      → z ≡ sequence6 p
+  pub header-seen : (h : Header) → f ≡ window p 0 48 → h ≡ headerOf f (length p) → z ≡ seen6 p h → z ≡ sequence6 p
   unfolding sequence6 gPduRows6 header window
-  header-seen h hf hh e = e ∙ ap seen (hh ∙ ap (λ (f : List ℕ). headerOf f (length p)) hf)
-    where
-      seen : Header → ℕ
-      seen h = let u = drop (h .upperAt) p in sequenceUnless (row (malformed h) 2 ∷ (gtp6Rows h (datagram u) ++ rows9To11 (datagram u))) u
+  header-seen h hf hh e = e ∙ ap (seen6 p) (hh ∙ ap (λ (f : List ℕ). headerOf f (length p)) hf)
 
-  pub header4-seen : (h : Header4) → f ≡ window p 0 20 → h ≡ header4Of f (length p)
-      → (let g = datagram (drop 20 p) in
-      z ≡ sequenceUnless (row (malformed4 h) 2 ∷ row (badHeader4 h) 3 ∷ (gtp4Rows h g ++ rows9To11 g)) (drop 20 p))
-      → z ≡ sequence4 p
+  pub header4-seen : (h : Header4) → f ≡ window p 0 20 → h ≡ header4Of f (length p) → z ≡ seen4 p h → z ≡ sequence4 p
   unfolding sequence4 gPduRows4 header4 window
-  header4-seen h hf hh e = e ∙ ap seen (hh ∙ ap (λ (f : List ℕ). header4Of f (length p)) hf)
-    where
-      seen : Header4 → ℕ
-      seen h =
-          let g = datagram (drop 20 p) in
-          sequenceUnless (row (malformed4 h) 2 ∷ row (badHeader4 h) 3 ∷ (gtp4Rows h g ++ rows9To11 g)) (drop 20 p)
+  header4-seen h hf hh e = e ∙ ap (seen4 p) (hh ∙ ap (λ (f : List ℕ). header4Of f (length p)) hf)
 
 pub ruleset tested6 = (header-seen, tested, over-ipv6)
 

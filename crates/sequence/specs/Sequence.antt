@@ -18,6 +18,8 @@ use Rattle.rules.specs.declared.Datagram.{Datagram}
 use Rattle.rules.specs.declared.Verdict.{Verdict}
 use Rattle.rules.specs.declared.Verdict.the-variants.{Pass, Refuse}
 
+-- WELL-FORMED
+
 -- row 11: not a G-PDU
 abbrev pub notGPdu : Datagram → List Bool
 notGPdu g = differs (g .messageType) gPdu ∷ []
@@ -38,9 +40,12 @@ gPduRows4 p =
     let g = datagram (datagramIn4 p) in
     row (malformed4 (header4 p)) 2 ∷ row (badHeader4 (header4 p)) 3 ∷ (gtp4Rows (header4 p) g ++ rows9To11 g)
 
+-- no row applies
 abbrev pub passes : Verdict → Bool
 passes Pass = true
 passes (Refuse r) = false
+
+-- WHAT IS FOUND
 
 -- the flag S of a datagram is set
 abbrev pub numbered : List ℕ → Bool
@@ -54,9 +59,12 @@ teid u = number (Gtpu.teid u) 0 4
 abbrev pub found : (teid sequenceNumber : ℕ) → ℕ
 found teid sequenceNumber = 0x1000000000000 + teid * 0x10000 + sequenceNumber
 
+abbrev pub foundIn : List ℕ → ℕ
+foundIn u = found (teid u) (Gtpu.sequenceNumber u)
+
 -- what is found in a datagram, where no row applies
 unfoldable pub sequenceUnless : List Row → (u : List ℕ) → ℕ
-sequenceUnless rows u = cond (passes (verdict rows) && numbered u) (found (teid u) (Gtpu.sequenceNumber u)) 0
+sequenceUnless rows u = cond (passes (verdict rows) && numbered u) (foundIn u) 0
 
 -- of an IPv6 packet, and of an IPv4 packet
 unfoldable pub sequence6 : List ℕ → ℕ
@@ -67,5 +75,5 @@ sequence4 p = sequenceUnless (gPduRows4 p) (datagramIn4 p)
 
 -- where no row applies, S alone decides
 pub record ByFlag (u : List ℕ) (r : ℕ) : Type 0 where
-  pub set : Gtpu.sequenceFlag u ≡ 1 → r ≡ found (teid u) (Gtpu.sequenceNumber u)
+  pub set : Gtpu.sequenceFlag u ≡ 1 → r ≡ foundIn u
   pub clear : Gtpu.sequenceFlag u ≡ 0 → r ≡ 0
