@@ -1,0 +1,42 @@
+use borrow.Author.Needs.{needs}
+use Rattle.sequence.specs.Parts.{rows8To11}
+use Rattle.sequence.proofs.Testing.{tested}
+use Rattle.sequence.proofs.sequence_of.Statement.{statement}
+use Rattle.sequence.proofs.sequence_of.Tie as tie
+
+returns : tie.Need-returns
+unfolding rows8To11
+returns c = search tested depth 20
+
+returns-2 : tie.Need-returns-2
+unfolding rows8To11
+returns-2 c = search tested depth 20
+
+returns-3 : tie.Need-returns-3
+unfolding rows8To11
+returns-3 c = search tested depth 20
+
+returns-4 : tie.Need-returns-4
+unfolding rows8To11
+returns-4 c = search tested depth 20
+
+returns-5 : tie.Need-returns-5
+unfolding rows8To11
+returns-5 c = search tested depth 20
+
+pub sequence-of-spec : {M : Type 1} → statement M
+sequence-of-spec =
+    tie.close
+    (tie.spec
+    (λ c κs. search needs)
+    returns
+    (λ c κs. search needs)
+    returns-2
+    (λ c κs. search needs)
+    returns-3
+    (λ c κs. search needs)
+    returns-4
+    (λ c κs. search needs)
+    (λ c κs. search needs)
+    (λ c κs. search needs)
+    returns-5)

@@ -1,0 +1,3 @@
+pub mod Sequence
+pub mod Numbered
+pub mod Parts
