@@ -76,7 +76,8 @@ def reasons() -> list[bytes]:
     packets = {
         "counted": [over6(g_pdu(9, 1)), over6(numbered_foreign), srh(over6(g_pdu(9, 5)), 0),
                     over6(yard.gtpu(yard.G_PDU, 9, bytes.fromhex("00070000"), yard.S))],
-        "no S": [over6(g_pdu(9)), over4(g_pdu(9)), over6(foreign), over6(yard.gtpu(yard.G_PDU, 9, INNER)),
+        "no S": [over6(g_pdu(9)), over6(yard.g_pdu(yard.DOWNLINK, 5, 0, 9, INNER)), over4(g_pdu(9)), over6(foreign),
+                 over6(yard.gtpu(yard.G_PDU, 9, INNER)),
                  over4(yard.gtpu(yard.G_PDU, 9, bytes.fromhex("00060000") + INNER, PN)), over4(yard.gtpu(yard.G_PDU, 9))],
         "2": [header4(plain, 2, struct.pack(">H", len(plain) + 20)), over6(message)[:-10]],
         "3": [header4(plain, 6, b"\x20\x00"), header4(plain, 6, b"\x00\x10"), changed(plain, 10, b"\x00\x00"), with_options(plain)],

@@ -100,9 +100,9 @@ all_printed <<'END'
 TEID       first highest     seen      new repeated     late     lost   lost %
 0x00000009     1       7        4        4        0        0        3  42.8571
 TEIDs 1, worst first by lost, then by TEID: seen 4, new 4, repeated 0, late 0, lost 3, 42.8571 % of new + lost
-frames 38: IP packets 36, not IP 1, snapped 1; padding cut 0
-not counted 32 of 36 IP packets:
-       6     no S: G-PDUs without a sequence number
+frames 39: IP packets 37, not IP 1, snapped 1; padding cut 0
+not counted 33 of 37 IP packets:
+       7     no S: G-PDUs without a sequence number
        3   2 malformed packet: cut short, of another IP version, or its length is wrong
        4   3 bad IPv4 header: a fragment, options, or a wrong checksum
        4   5 bad header chain: a fragment, options, or a routing header that is not a whole SRH
@@ -114,7 +114,7 @@ not counted 32 of 36 IP packets:
 snapped or damaged 18: a number in such a packet is not offered, and the row that passes over it counts it as lost
 END
 all_complained <<END
-kawsarpa: $work/reasons.pcap: packet 38 is snapped, 109 octets of 110: it is left out
+kawsarpa: $work/reasons.pcap: packet 39 is snapped, 109 octets of 110: it is left out
 END
 
 # both directions under one TEID: 1, 5000, 2, 5001, 3, 5002
