@@ -4,6 +4,8 @@
 tool=$(realpath "$1")
 work=$(mktemp -d)
 trap 'rm -rf "$work"' EXIT
+# a sanitizer's report is told from an exit code of the tool
+export ASAN_OPTIONS=exitcode=99 UBSAN_OPTIONS=exitcode=99
 checks=0
 
 fail() {
