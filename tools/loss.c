@@ -171,7 +171,7 @@ static const char *meaning(unsigned int number)
     case KAWSARPA_ANSWER_BAD_HEADER4:
         return ": a fragment, options, or a wrong checksum";
     case KAWSARPA_ANSWER_BAD_CHAIN:
-        return ": a fragment, options, or a routing header that is not a whole SRH";
+        return ": a fragment, options, a second routing header, or one that is not a whole SRH";
     case KAWSARPA_ANSWER_SEGMENTS_LEFT:
         return ": an SRH with segments left, so on its way to another stop";
     case KAWSARPA_ANSWER_UPPER_LAYER:
@@ -185,7 +185,7 @@ static const char *meaning(unsigned int number)
     case KAWSARPA_ANSWER_NO_ROW:
         return ": 256 other TEIDs have the rows";
     case KAWSARPA_ANSWER_ROW_FULL:
-        return ": the row has seen 4294967295";
+        return ": the row has seen 4,294,967,295";
     default:
         return "";
     }
@@ -206,7 +206,7 @@ static void say_not_counted(FILE *to, const struct run *run)
 }
 
 /* Packets that may have had a number, which then is missing in its row. */
-static unsigned long unread(const struct run *run)
+static unsigned long unreadable(const struct run *run)
 {
     const unsigned long *packets = run->not_counted;
     return run->reader.counts.snapped + packets[KAWSARPA_ANSWER_MALFORMED] + packets[KAWSARPA_ANSWER_BAD_HEADER4] +
@@ -228,9 +228,9 @@ static void say_account(FILE *to, const struct run *run, const struct report *re
     say_totals(to, report);
     capture_say_counts(to, &run->reader.counts);
     say_not_counted(to, run);
-    if (unread(run) > 0)
-        fprintf(to, "snapped or damaged %lu: a number in such a packet is not offered, and the row that passes over it counts it as lost\n",
-                unread(run));
+    if (unreadable(run) > 0)
+        fprintf(to, "unreadable %lu (snapped, 2, 3, 5, 9 and 10): a number in such a packet is not offered, and counts as lost in its "
+                "row\n", unreadable(run));
     say_several_destinations(to, report);
 }
 

@@ -67,7 +67,7 @@ def streams() -> list[bytes]:
 
 
 def reasons() -> list[bytes]:
-    """Frames, of which the rows count numbers 1, 4, 5 and 7 of TEID 9; 2 and 3 are damaged, and 6 is never sent."""
+    """Frames, of which the rows count numbers 1, 4, 5 and 7 of TEID 9; 2 and 3 are unreadable, and 6 is never sent."""
     plain = over4(g_pdu(9, 2))
     message = g_pdu(9, 3)
     other = yard.udp(yard.GTPU_PORT, yard.GTPU_PORT + 1, message[8:])

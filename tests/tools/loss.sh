@@ -105,13 +105,13 @@ not counted 33 of 37 IP packets:
        7     no S: G-PDUs without a sequence number
        3   2 malformed packet: cut short, of another IP version, or its length is wrong
        4   3 bad IPv4 header: a fragment, options, or a wrong checksum
-       4   5 bad header chain: a fragment, options, or a routing header that is not a whole SRH
+       4   5 bad header chain: a fragment, options, a second routing header, or one that is not a whole SRH
        1   7 bad segments left: an SRH with segments left, so on its way to another stop
        4   8 bad upper layer: not UDP to port 2152, the port of GTP-U
        2   9 bad UDP: cut short, or its length is wrong
        4  10 bad GTP-U: cut short, not version 1, GTP', or its length is wrong
        4  11 not a G-PDU: Echo, End Marker, Error Indication and so on
-snapped or damaged 18: a number in such a packet is not offered, and the row that passes over it counts it as lost
+unreadable 18 (snapped, 2, 3, 5, 9 and 10): a number in such a packet is not offered, and counts as lost in its row
 END
 all_complained <<END
 kawsarpa: $work/reasons.pcap: packet 39 is snapped, 109 octets of 110: it is left out
@@ -144,7 +144,7 @@ all_printed <<<teid,first,highest,seen,new,repeated,late,lost,lost_percent
 run 0 loss "$work/not-ip.pcap"
 printed "frames 6: IP packets 0, not IP 6, snapped 0; padding cut 0"
 run 0 loss "$work/snapped.pcap"
-printed "snapped or damaged 7: a number in such a packet is not offered, and the row that passes over it counts it as lost"
+printed "unreadable 7 (snapped, 2, 3, 5, 9 and 10): a number in such a packet is not offered, and counts as lost in its row"
 
 # a gateway does not carry sequence numbers: behind the far one there are none
 for name in office gate mast crane; do

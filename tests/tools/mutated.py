@@ -3,7 +3,7 @@ packets mutated in sound ones.
 
 TOOL is best built with the sanitizers. OFFICE to CRANE are the yard's tables, EVERYWHERE one that leads every address to End.M.GTP6.D or to
 a rule, CAPTURES a directory that captures.py and the yard's make-capture.py have filled. Every run has to end with an exit code of the
-list, quietly, and to leave its output exactly when it says so. What loss does not count is what translate refuses by EVERYWHERE, or has no S.
+list, quietly, and to leave its output exactly when it says so. What loss does not count has no S, or translate refuses it by EVERYWHERE.
 """
 
 import random
