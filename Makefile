@@ -124,6 +124,7 @@ tool-test: tool second
 	clang-tidy --quiet $(tool_sources) -- $(tool_flags) $(CPPFLAGS) 2>&1 | sed '/^[0-9]* warnings generated\.$$/d' # those of system headers
 	tests/tools/tables.sh target/tools/kawsarpa-asan $(second)
 	tests/tools/captures.sh target/tools/kawsarpa-asan
+	tests/tools/loss.sh target/tools/kawsarpa-asan
 	python3 docs/trip.py | cmp - docs/trip.svg
 
 # the yard example: tables compiled, captures sent through whole trips; root is needed only where a package is missing

@@ -16,5 +16,6 @@ int command_check(int argc, char **argv);
 int command_explain(int argc, char **argv);
 int command_translate(int argc, char **argv);
 int command_trip(int argc, char **argv);
+int command_loss(int argc, char **argv);
 
 #endif

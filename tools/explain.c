@@ -41,8 +41,8 @@ static error_t parse(int key, char *argument, struct argp_state *state)
 }
 
 static const char help_text[] =
-    "Says what an answer from 0 to 16 means, what it is likely to come from, and what to do next; or, with --fault, what is wrong with a "
-    "table. NUMBER is decimal, or hexadecimal behind 0x."
+    "Says what an answer (0 to 16, 25 or 26) means, what it is likely to come from, and what to do next; or, with --fault, what is wrong "
+    "with a table. NUMBER is decimal, or hexadecimal behind 0x."
     "\vExit codes: 0 explained; 1 there is no such number; 2 wrong usage; 3 the system failed.";
 
 static const struct argp argp = {option_list, parse, "NUMBER", help_text, NULL, NULL, NULL};
@@ -79,7 +79,8 @@ static int explain_answer(const char *text, unsigned long long number)
 {
     const struct answer_words *answer = answer_words(number);
     if (answer == NULL) {
-        say_error("%s is no answer: answers are 0 to %d", text, KAWSARPA_ANSWER_NO_ROOM);
+        say_error("%s is no answer: answers are 0 to %d, %d and %d", text, KAWSARPA_ANSWER_NO_ROOM, KAWSARPA_ANSWER_NO_ROW,
+                  KAWSARPA_ANSWER_ROW_FULL);
         return EXIT_INPUT;
     }
     printf("%llu: %s\n", number, kawsarpa_answer_name((unsigned int)number));

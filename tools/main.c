@@ -22,6 +22,7 @@ static const struct command commands[] = {
     {"explain", "say what an answer or a fault of a table means", command_explain},
     {"translate", "send the packets of a capture through a table", command_translate},
     {"trip", "send the packets of a capture through every stop of a trip", command_trip},
+    {"loss", "count the lost sequence numbers of each TEID in a capture", command_loss},
 };
 
 enum { COMMANDS = sizeof commands / sizeof commands[0] };

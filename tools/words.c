@@ -1,5 +1,6 @@
 #include "words.h"
 
+#include <stdbool.h>
 #include <string.h>
 
 #include "kawsarpa.h"
@@ -124,11 +125,23 @@ static const struct answer_words answers[] = {
      NULL,
      "The program that calls the library lends too small a buffer: what is sent has up to 132 octets more than what arrived.",
      "Report it to whoever writes that program. `kawsarpa check TABLE' prints how much each entry adds."},
+    [KAWSARPA_ANSWER_NO_ROW] =
+    {"An offer of a sequence number: the TEID has no row, and no row is free. There are 256 at most.",
+     NULL,
+     "More sessions than rows, or rows of sessions that ended long ago. The packet itself is translated all the same.",
+     "With `kawsarpa loss', filter the capture by address. A program that calls the library zeroes the rows that it has read."},
+    [KAWSARPA_ANSWER_ROW_FULL] =
+    {"An offer of a sequence number: the row of its TEID has seen 4,294,967,295 packets.",
+     NULL,
+     "The row was not reset in time: at a million packets a second it is full after 71 minutes. The packet itself is translated all the "
+     "same.",
+     "Report it to whoever writes the program that calls the library: it has to read and zero the row within that time."},
 };
 
 const struct answer_words *answer_words(unsigned long number)
 {
-    return number < sizeof answers / sizeof answers[0] ? &answers[number] : NULL;
+    const bool known = number < sizeof answers / sizeof answers[0] && answers[number].given_when != NULL;
+    return known ? &answers[number] : NULL;
 }
 
 /* By record and condition; conditions count from 1. */

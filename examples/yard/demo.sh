@@ -1,5 +1,6 @@
 #!/usr/bin/env bash
-# demo.sh TOOL: the yard's tables compiled, its captures made, and both sent through whole trips. Prints each command before what it says.
+# demo.sh TOOL: the yard's tables compiled, its captures made, sent through whole trips, and searched for what was lost. Prints each
+# command before what it says.
 set -eu -o pipefail
 
 if [ $# -ne 1 ]; then
@@ -56,3 +57,6 @@ title "What arrived, through the same trip once more: it comes out as it went in
 step 0 kawsarpa trip --near office --via gate --via mast --far crane arrived.pcap -o again.pcap | sed '2s/.*/.../; 3,/^frames/{/^frames/!d}'
 step 0 cmp arrived.pcap again.pcap
 echo "arrived.pcap and again.pcap are equal: 3 packets, $(stat -c %s again.pcap) octets of capture"
+
+title "What was lost between radio and gateway, for a radio that numbers its packets: a gap of three, a repeat, one late, and past 65,535"
+step 0 kawsarpa loss numbered.pcap

@@ -1,5 +1,8 @@
 #!/usr/bin/env python3
-"""make-capture.py DIRECTORY: writes downlink.pcap and uplink.pcap there, the captures of the yard example. The same octets every time."""
+"""make-capture.py DIRECTORY: writes downlink.pcap, uplink.pcap and numbered.pcap there, the captures of the yard example.
+
+The same octets every time.
+"""
 
 import struct
 import sys
@@ -10,7 +13,8 @@ UPF6, RADIO6 = "2001:db8:a0::1", "2001:db8:77::9"  # the two ends of the GTP-U t
 UPF4, RADIO4 = "198.51.100.7", "192.0.2.9"         # and over IPv4
 OFFICE, CARRIER = "203.0.113.1", "203.0.113.40"    # inside it: the yard's office and a straddle carrier
 
-G_PDU, END_MARKER = 255, 254
+ECHO_REQUEST, END_MARKER, G_PDU = 1, 254, 255
+GTPU, E, S = 0x30, 4, 2  # the first octet: version 1 and PT 1; the flags for extensions and for a sequence number
 DOWNLINK, UPLINK = 0, 1
 GTPU_PORT = 2152
 UDP = 17
@@ -50,15 +54,14 @@ def udp(source_port: int, destination_port: int, payload: bytes) -> bytes:
     return struct.pack(">HHHH", source_port, destination_port, 8 + len(payload), 0) + payload
 
 
-def gtpu(message: int, teid: int, payload: bytes = b"") -> bytes:
-    return udp(GTPU_PORT, GTPU_PORT, struct.pack(">BBHI", 0x30, message, len(payload), teid) + payload)
+def gtpu(message: int, teid: int, payload: bytes = b"", flags: int = 0) -> bytes:
+    return udp(GTPU_PORT, GTPU_PORT, struct.pack(">BBHI", GTPU | flags, message, len(payload), teid) + payload)
 
 
-def g_pdu(direction: int, qfi: int, reflective: int, teid: int, inner: bytes) -> bytes:
-    """With a PDU Session container (TS 38.415) of one unit."""
-    container = bytes([0, 0, 0, 0x85, 1, direction << 4, reflective << 6 | qfi, 0])
-    octets = struct.pack(">BBHI", 0x34, G_PDU, len(container) + len(inner), teid) + container + inner
-    return udp(GTPU_PORT, GTPU_PORT, octets)
+def g_pdu(direction: int, qfi: int, reflective: int, teid: int, inner: bytes, number: int | None = None) -> bytes:
+    """With a PDU Session container (TS 38.415) of one unit, and with S where there is a sequence number."""
+    container = bytes([0, 0x85, 1, direction << 4, reflective << 6 | qfi, 0])
+    return gtpu(G_PDU, teid, struct.pack(">H", number or 0) + container + inner, E if number is None else E | S)
 
 
 def frame(ethertype: int, payload: bytes, tag: bytes = b"") -> bytes:
@@ -108,12 +111,33 @@ def uplink() -> list[bytes]:
     ]
 
 
+def numbered() -> list[bytes]:
+    """Four sessions whose packets the radio numbers, in turns; then what has no number to count: an Echo Request, and no S."""
+    def over_ipv6(datagram: bytes) -> bytes:
+        return frame(ETHERTYPE_IPV6, ipv6(RADIO6, UPF6, EXPEDITED, datagram))
+
+    def over_ipv4(datagram: bytes) -> bytes:
+        return frame(ETHERTYPE_IPV4, ipv4(RADIO4, UPF4, EXPEDITED, datagram))
+
+    inner = from_carrier(b"here")
+    sessions = [
+        (0x0A0B0C01, over_ipv6, [100, 101, 105, 106]),  # a gap of three
+        (0x0A0B0C02, over_ipv6, [7, 8, 8, 9]),          # a repeat
+        (0x0A0B0C03, over_ipv4, [40, 42, 41, 43]),      # one late
+        (0x0A0B0C04, over_ipv4, [65534, 65535, 0, 1]),  # past 65,535
+    ]
+    frames = [over(g_pdu(UPLINK, 5, 0, teid, inner, numbers[turn])) for turn in range(4) for teid, over, numbers in sessions]
+    echo_request = gtpu(ECHO_REQUEST, 0, struct.pack(">HBB", 1, 0, 0), S)
+    return [*frames, over_ipv6(echo_request), over_ipv6(g_pdu(UPLINK, 5, 0, 0x0A0B0C0D, inner))]
+
+
 def main() -> None:
     if len(sys.argv) != 2:
         sys.exit("usage: make-capture.py DIRECTORY")
     directory = Path(sys.argv[1])
     (directory / "downlink.pcap").write_bytes(capture(downlink()))
     (directory / "uplink.pcap").write_bytes(capture(uplink()))
+    (directory / "numbered.pcap").write_bytes(capture(numbered()))
 
 
 if __name__ == "__main__":

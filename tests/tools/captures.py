@@ -89,6 +89,27 @@ def srv6(source: str, traffic_class: int, path: list[str], inner: bytes) -> byte
     return header + ip_address(source).packed + ip_address(path[0]).packed + srh + inner
 
 
+def same(packets: list[Packet]) -> dict[str, bytes]:
+    """Captures of every link type and format: the same packets, so the same result."""
+    return {
+        "same-ethernet.pcap": pcap(ETHERNET, over(packets, tagged)),
+        "same-vlan.pcap": pcap(ETHERNET, over(packets, lambda p: tagged(p, "8100000c"))),
+        "same-qinq.pcap": pcap(ETHERNET, over(packets, lambda p: tagged(p, "88a80001", "8100000c"))),
+        "same-old-qinq.pcap": pcap(ETHERNET, over(packets, lambda p: tagged(p, "91000001", "8100000c"))),
+        "same-cooked.pcap": pcap(SLL, over(packets, cooked)),
+        "same-cooked-v2.pcap": pcap(SLL2, over(packets, cooked2)),
+        "same-raw.pcap": pcap(RAW, packets),
+        "same-raw-linux.pcap": pcap(RAW_LINUX, packets),
+        "same-raw-openbsd.pcap": pcap(RAW_OPENBSD, packets),
+        "same-big-endian.pcap": pcap(ETHERNET, over(packets, tagged), order=">"),
+        "same-nanoseconds.pcap": pcap(ETHERNET, over(packets, tagged), magic=NANOSECONDS),
+        "same-pcapng.pcap": pcapng(ETHERNET, over(packets, tagged)),
+        "same-pcapng-raw.pcap": pcapng(RAW, packets),
+        "same-padded.pcap": pcap(ETHERNET, over(packets, lambda p: tagged(p) + bytes(6))),
+        "same-cooked-padded.pcap": pcap(SLL, over(packets, lambda p: cooked(p) + bytes(1))),
+    }
+
+
 def main() -> None:
     if len(sys.argv) != 2:
         sys.exit("usage: captures.py DIRECTORY")
@@ -118,22 +139,8 @@ def main() -> None:
     sent("sent-ipv6.expected", [sent6, sent_last])
     sent("none.expected", [])
 
-    # every link type and format: the same packets, so the same result
-    write("same-ethernet.pcap", pcap(ETHERNET, over(packets, tagged)))
-    write("same-vlan.pcap", pcap(ETHERNET, over(packets, lambda p: tagged(p, "8100000c"))))
-    write("same-qinq.pcap", pcap(ETHERNET, over(packets, lambda p: tagged(p, "88a80001", "8100000c"))))
-    write("same-old-qinq.pcap", pcap(ETHERNET, over(packets, lambda p: tagged(p, "91000001", "8100000c"))))
-    write("same-cooked.pcap", pcap(SLL, over(packets, cooked)))
-    write("same-cooked-v2.pcap", pcap(SLL2, over(packets, cooked2)))
-    write("same-raw.pcap", pcap(RAW, packets))
-    write("same-raw-linux.pcap", pcap(RAW_LINUX, packets))
-    write("same-raw-openbsd.pcap", pcap(RAW_OPENBSD, packets))
-    write("same-big-endian.pcap", pcap(ETHERNET, over(packets, tagged), order=">"))
-    write("same-nanoseconds.pcap", pcap(ETHERNET, over(packets, tagged), magic=NANOSECONDS))
-    write("same-pcapng.pcap", pcapng(ETHERNET, over(packets, tagged)))
-    write("same-pcapng-raw.pcap", pcapng(RAW, packets))
-    write("same-padded.pcap", pcap(ETHERNET, over(packets, lambda p: tagged(p) + bytes(6))))
-    write("same-cooked-padded.pcap", pcap(SLL, over(packets, lambda p: cooked(p) + bytes(1))))
+    for name, octets in same(packets).items():
+        write(name, octets)
     write("ipv4.pcap", pcap(IPV4, [over4, marker]))
     write("ipv6.pcap", pcap(IPV6, [over6, last6]))
 

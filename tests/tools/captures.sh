@@ -1,49 +1,16 @@
 #!/usr/bin/env bash
-# captures.sh TOOL: drives the commands translate and trip over captures of every link type, bad ones and mutated ones, with the yard's tables.
+# captures.sh TOOL: drives the commands translate and trip over captures of every link type, bad ones and mutated ones, with the yard's
+# tables; and loss over the mutated ones.
 set -eu
 
 if [ $# -ne 1 ]; then
     echo "usage: captures.sh TOOL" >&2
     exit 2
 fi
-tool=$(realpath "$1")
 here=$(cd "$(dirname "$0")" && pwd)
 yard=$here/../../examples/yard
-work=$(mktemp -d)
-trap 'rm -rf "$work"' EXIT
-checks=0
-
-fail() {
-    echo "captures.sh: $1" >&2
-    [ ! -s "$work/stdout" ] || sed 's/^/  stdout: /' "$work/stdout" >&2
-    [ ! -s "$work/stderr" ] || sed 's/^/  stderr: /' "$work/stderr" >&2
-    exit 1
-}
-
-# Runs the tool and holds the exit code against the one that is expected.
-run() { # CODE ARGUMENT...
-    local expected=$1 code=0
-    shift
-    "$tool" "$@" >"$work/stdout" 2>"$work/stderr" || code=$?
-    [ "$code" -eq "$expected" ] || fail "exit code $code, not $expected: $*"
-    checks=$((checks + 1))
-}
-
-# A line of the last run's standard output, or of its errors.
-printed() { # TEXT
-    grep -qxF -- "$1" "$work/stdout" || fail "not printed: $1"
-    checks=$((checks + 1))
-}
-
-complained() { # TEXT
-    grep -qF -- "$1" "$work/stderr" || fail "no such message: $1"
-    checks=$((checks + 1))
-}
-
-same() { # FILE FILE
-    cmp "$work/$1" "$work/$2" >&2 || fail "$1 and $2 differ"
-    checks=$((checks + 1))
-}
+# shellcheck source=tests/tools/checks.sh
+. "$here/checks.sh"
 
 # After a failure nothing is left, under the final name or beside it.
 nothing_left() {
@@ -220,7 +187,7 @@ complained "packets ..."
 printed "    3000   0 sent"
 
 # the field guide has a row for each answer, under its name
-for number in {0..16}; do
+for number in {0..16} 25 26; do
     name=$("$tool" explain "$number" | sed -n "s/^$number: //p")
     grep -qF "| $number $name |" "$here/../../docs/FIELD-GUIDE.md" || fail "no row in the field guide: $number $name"
     checks=$((checks + 1))
@@ -233,6 +200,16 @@ while IFS= read -r line; do
 done < <(sed -n '/^    \$ kawsarpa trip/,/^$/s/^    //p' "$here/../../README.md")
 
 # hostile captures
-python3 "$here/mutated.py" "$tool" "$work"/{office,gate,mast,crane} "$work" 1 200
+cat >"$work/everywhere.yaml" <<'END'
+format: 1
+policies:
+- {name: p, last-sid: "::", args-octet: 0}
+entries:
+- {name: e, behaviour: End.M.GTP6.D, prefix: "::/0", hop-limit: 1, source: "::", direction: uplink, session-type: IPv4, policy: p}
+rules:
+- {name: r, prefix: 0.0.0.0/0, hop-limit: 1, direction: uplink, session-type: IPv4, p: 0, q: 0, sid-prefix: "::", source-prefix: "::"}
+END
+run 0 compile "$work/everywhere.yaml" -o "$work/everywhere"
+python3 "$here/mutated.py" "$tool" "$work"/{office,gate,mast,crane,everywhere} "$work" 1 200
 
 echo "captures.sh: all $checks checks hold"

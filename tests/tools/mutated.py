@@ -1,10 +1,13 @@
-"""mutated.py TOOL OFFICE GATE MAST CRANE CAPTURES SEED COUNT: translate and trip over COUNT mutated captures, and over packets mutated in sound ones.
+"""mutated.py TOOL OFFICE GATE MAST CRANE EVERYWHERE CAPTURES SEED COUNT: translate, trip and loss over COUNT mutated captures, and over
+packets mutated in sound ones.
 
-TOOL is best built with the sanitizers. OFFICE to CRANE are the yard's tables, CAPTURES a directory that captures.py has filled. Every run
-has to end with an exit code of the list, quietly, and to leave its output exactly when it says so.
+TOOL is best built with the sanitizers. OFFICE to CRANE are the yard's tables, EVERYWHERE one that leads every address to End.M.GTP6.D or to
+a rule, CAPTURES a directory that captures.py and the yard's make-capture.py have filled. Every run has to end with an exit code of the
+list, quietly, and to leave its output exactly when it says so. What loss does not count has no S, or translate refuses it by EVERYWHERE.
 """
 
 import random
+import re
 import struct
 import subprocess
 import sys
@@ -13,7 +16,7 @@ from pathlib import Path
 
 LINKS = [1, 12, 14, 101, 113, 228, 229, 276]
 SEEDS = ["same-ethernet.pcap", "same-qinq.pcap", "same-cooked.pcap", "same-cooked-v2.pcap", "same-raw.pcap", "same-big-endian.pcap",
-         "same-nanoseconds.pcap", "same-pcapng.pcap", "same-pcapng-raw.pcap", "snapped.pcap", "not-ip.pcap"]
+         "same-nanoseconds.pcap", "same-pcapng.pcap", "same-pcapng-raw.pcap", "snapped.pcap", "not-ip.pcap", "numbered.pcap"]
 PACKETS = 5000  # mutated packets for each link type
 TELLING = [0, 1, 2, 3, 4, 8, 16, 17, 20, 40, 41, 43, 60, 64, 127, 128, 143, 254, 255]
 
@@ -54,43 +57,70 @@ def pcap(link: int, frames: list[bytes]) -> bytes:
     return octets + b"".join(struct.pack("<IIII", 0, 0, len(frame), len(frame)) + frame for frame in frames)
 
 
-def run(arguments: list[str], codes: list[int], out: Path) -> str:
-    """What is wrong with a run, or nothing."""
+def run(arguments: list[str], codes: list[int], out: Path) -> tuple[str, str]:
+    """What is wrong with a run, or nothing; and what it printed."""
     out.unlink(missing_ok=True)
-    done = subprocess.run(arguments, stdout=subprocess.DEVNULL, stderr=subprocess.PIPE, errors="replace", timeout=60)
+    done = subprocess.run(arguments, capture_output=True, errors="replace", timeout=60)
+    written = done.stdout != "" if arguments[1] == "loss" else out.exists()
+    fault = ""
     if done.returncode not in codes:
-        return f"exit code {done.returncode}"
-    if "Sanitizer" in done.stderr or "runtime error" in done.stderr:
-        return "the sanitizers complain"
-    if done.returncode == 0 and not out.exists():
-        return "no output"
-    if arguments[1] == "translate" and done.returncode != 0 and out.exists():
-        return "output after a failure"
-    return ""
+        fault = f"exit code {done.returncode}"
+    elif "Sanitizer" in done.stderr or "runtime error" in done.stderr:
+        fault = "the sanitizers complain"
+    elif done.returncode == 0 and not written:
+        fault = "no output"
+    elif arguments[1] != "trip" and done.returncode != 0 and written:
+        fault = "output after a failure"
+    return fault, done.stdout
+
+
+def refusals(printed: str) -> dict[int, int]:
+    """The answers 2 to 11 with their counts."""
+    counts = {int(number): int(count) for count, number in re.findall(r"^ *([0-9]+)  ([ 0-9][0-9]) ", printed, re.MULTILINE)}
+    return {number: count for number, count in counts.items() if 2 <= number <= 11}
+
+
+def accounted(loss: str) -> bool:
+    """Whether every IP packet of a report is seen or not counted."""
+    def behind(words: str) -> int:
+        found = re.search(words + " ([0-9]+)", loss)
+        return int(found[1]) if found else 0
+
+    return behind("IP packets") == behind("seen") + behind("not counted")
 
 
 def main() -> None:
-    if len(sys.argv) != 9:
-        sys.exit("usage: mutated.py TOOL OFFICE GATE MAST CRANE CAPTURES SEED COUNT")
-    tool, office, gate, mast, crane = sys.argv[1:6]
-    captures, seed, count = Path(sys.argv[6]), int(sys.argv[7]), int(sys.argv[8])
+    if len(sys.argv) != 10:
+        sys.exit("usage: mutated.py TOOL OFFICE GATE MAST CRANE EVERYWHERE CAPTURES SEED COUNT")
+    tool, office, gate, mast, crane, everywhere = sys.argv[1:7]
+    captures, seed, count = Path(sys.argv[7]), int(sys.argv[8]), int(sys.argv[9])
     draw = random.Random(seed)
     seeds = [(captures / name).read_bytes() for name in SEEDS]
     packets = frames_of((captures / "sent.expected").read_bytes()) + frames_of((captures / "same-raw.pcap").read_bytes())
-    framed = [frame for name in SEEDS[:4] for frame in frames_of((captures / name).read_bytes())]
+    numbered = frames_of((captures / "numbered.pcap").read_bytes())
+    packets += [frame[14:] for frame in numbered]
+    framed = numbered + [frame for name in SEEDS[:4] for frame in frames_of((captures / name).read_bytes())]
 
     with tempfile.TemporaryDirectory() as directory:
         capture, out = Path(directory) / "in.pcap", Path(directory) / "out.pcap"
         translate = [tool, "translate", "--table", office, "--trace", str(capture), str(out)]
         trip = [tool, "trip", "--near", office, "--via", gate, "--via", mast, "--far", crane, str(capture), "-o", str(out)]
+        by_everywhere = [tool, "translate", "--table", everywhere, str(capture), str(out)]
+        loss = [tool, "loss", str(capture)]
 
         def judge(what: str) -> None:
-            for arguments in (translate, trip):
-                fault = run(arguments, [0, 1], out)
-                if fault:
-                    kept = Path(f"mutated-{seed}.pcap")
-                    kept.write_bytes(capture.read_bytes())
-                    sys.exit(f"mutated.py: {arguments[1]}, seed {seed}, {what}: {fault}; kept as {kept}")
+            commands = [translate, trip, by_everywhere, loss]
+            results = [run(arguments, [0, 1], out) for arguments in commands]
+            faults = [f"{arguments[1]}: {fault}" for arguments, (fault, _) in zip(commands, results) if fault]
+            refused, report = results[2][1], results[3][1]
+            if refusals(report) != refusals(refused):
+                faults.append(f"loss: reasons {refusals(report)}, not {refusals(refused)}")
+            if not accounted(report):
+                faults.append("loss: seen and not counted are not all packets")
+            if faults:
+                kept = Path(f"mutated-{seed}.pcap")
+                kept.write_bytes(capture.read_bytes())
+                sys.exit(f"mutated.py: seed {seed}, {what}: {'; '.join(faults)}; kept as {kept}")
 
         for link in LINKS:
             capture.write_bytes(pcap(link, [mutate(draw, draw.choice(packets + framed)) for _ in range(PACKETS)]))
