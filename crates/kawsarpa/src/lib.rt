@@ -6,6 +6,7 @@ ghost use Rattle.rules.specs.Answer.{packed, overlay};
 ghost use Rattle.rules.specs.Calls.{translate6, translate4};
 ghost use Rattle.rules.specs.Fault.{fault};
 ghost use Rattle.loss.specs.Loss.{offer};
+ghost use Rattle.sequence.specs.Sequence.{sequence6, sequence4};
 
 // The IPv6 call.
 #[no_mangle]
@@ -48,4 +49,19 @@ pub extern "C" fn kawsarpa_loss_offer(rows: &mut [loss::Row], teid: u32, number:
     ensures { λ r. ⌜ (r, now (rows .exit)) ≡ offer (now (rows .entry)) teid number ⌝ }
 {
     loss::offer(rows, teid, number)
+}
+
+// TEID and sequence number of an IPv6 packet, and of an IPv4 packet, that is a well-formed G-PDU with S; else 0.
+#[no_mangle]
+pub extern "C" fn kawsarpa_sequence_ipv6(packet: &[u8]) -> u64
+    ensures { λ r. ⌜ r ≡ sequence6 (now (packet .entry)) ⌝ }
+{
+    sequence::sequence_ipv6(packet)
+}
+
+#[no_mangle]
+pub extern "C" fn kawsarpa_sequence_ipv4(packet: &[u8]) -> u64
+    ensures { λ r. ⌜ r ≡ sequence4 (now (packet .entry)) ⌝ }
+{
+    sequence::sequence_ipv4(packet)
 }
