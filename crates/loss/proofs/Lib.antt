@@ -7,3 +7,4 @@ pub mod Telling
 pub mod Histories
 pub mod Alone
 pub mod Meaning
+pub mod Samples

@@ -52,7 +52,7 @@ counted r number Repeated = record {
   new = r .new;
   repeated = (r .repeated + 1) % 2 ^ 32;
   late = r .late;
-  lost = r .lost;
+  lost = r .lost;  -- a repeat loses nothing
 }
 counted r number Late = record {
   teid = r .teid;
@@ -62,7 +62,7 @@ counted r number Late = record {
   new = r .new;
   repeated = r .repeated;
   late = (r .late + 1) % 2 ^ 32;
-  lost = r .lost;
+  lost = r .lost;  -- a late packet gives nothing back
 }
 
 -- a row's first number is new, and its counts start from 0 there
