@@ -128,7 +128,8 @@ module _ (teid : ℕ) where
 
   -- an offer by which a row is served, at any place: either that row, or one as before
   at-place : (rows : List Row) (other number : ℕ) (P : Row → Type 0) (j : ℕ)
-      → (serving rows other ≡ At j → P (offered (rowAt rows j) other number .1)) → P (rowAt rows j) → P (rowAt (AfterOffer rows other number) j)
+      → (serving rows other ≡ At j → P (offered (rowAt rows j) other number .1)) → P (rowAt rows j)
+      → P (rowAt (AfterOffer rows other number) j)
   at-place rows other number P j this else = go (serving rows other) refl
     where
       go : (f : Found) → serving rows other ≡ f → P (rowAt (AfterOffer rows other number) j)
@@ -143,9 +144,11 @@ module _ (teid : ℕ) where
       let here : serving rows teid ≡ At i = own-place rows teid i below own
       (λ j h. not-own j (λ e. let q = only j e in omega arith)) in
       State.served i (subst (λ (k : ℕ). i < k) (sym (same-used rows teid number)) below)
-      (subst (λ (r : Row). ofTeid teid r ≡ true) (sym (served-row rows teid number i here)) (own-after teid number (rowAt rows i) (inl own)))
+      (subst (λ (r : Row). ofTeid teid r ≡ true) (sym (served-row rows teid number i here))
+      (own-after teid number (rowAt rows i) (inl own)))
       (λ j e. ⊎-elim (λ q. q)
-      (λ n. only j (subst (λ (r : Row). ofTeid teid r ≡ true) (other-row rows teid number j (λ q. n (place-of j i (sym q ∙ here)))) e)) (same-or j i))
+      (λ n. only j (subst (λ (r : Row). ofTeid teid r ≡ true)
+      (other-row rows teid number j (λ q. n (place-of j i (sym q ∙ here)))) e)) (same-or j i))
       (served-row rows teid number i here ∙ ap (λ (r : Row). offered r teid number .1) same)
     where
       not-own : (j : ℕ) → (ofTeid teid (rowAt rows j) ≡ true → ⊥) → ofTeid teid (rowAt rows j) ≡ false
@@ -166,11 +169,13 @@ module _ (teid : ℕ) where
       go (At k) e =
           let p = lowest-at free rows n k e in
           let here : serving rows teid ≡ At k = free-place rows teid k (λ j h. none j) e in
-          let row = served-row rows teid number k here ∙ ap (λ (o : ℕ × Row). o .1) (offered-free (rowAt rows k) teid number (eqb-true _ 0 (p .1))) in
+          let first = offered-free (rowAt rows k) teid number (eqb-true _ 0 (p .1)) in
+          let row = served-row rows teid number k here ∙ ap (λ (o : ℕ × Row). o .1) first in
           State.served k (subst (λ (m : ℕ). k < m) (sym (same-used rows teid number)) (p .0))
           (subst (λ (r : Row). ofTeid teid r ≡ true) (sym row) (begun teid number))
           (λ j q. ⊎-elim (λ same. same)
-          (λ differ. absurd (true≢false (sym q ∙ ap (ofTeid teid) (other-row rows teid number j (λ z. differ (place-of j k (sym z ∙ here)))) ∙ none j)))
+          (λ differ. absurd (true≢false
+          (sym q ∙ ap (ofTeid teid) (other-row rows teid number j (λ z. differ (place-of j k (sym z ∙ here)))) ∙ none j)))
           (same-or j k))
           (row ∙ sym begins)
       go Nothing e =
@@ -179,16 +184,21 @@ module _ (teid : ℕ) where
           subst (λ (l : List Row). State l (offered a teid number .1)) (sym rows-stay)
           (State.shutOut none (λ j h. lowest-none free rows n e j h))
   own-step rows a number (State.shutOut none busy) =
-      let shut : serving rows teid ≡ Nothing = no-place rows teid (λ j h. none j) (is-lowest free rows (usedOf (length rows)) Nothing busy) in
+      let no-free = is-lowest free rows (usedOf (length rows)) Nothing busy in
+      let shut : serving rows teid ≡ Nothing = no-place rows teid (λ j h. none j) no-free in
       let rows-stay = ap (λ (o : ℕ × List Row). o .1) (refuses rows teid number shut) in
       subst (λ (l : List Row). State l (offered a teid number .1)) (sym rows-stay) (State.shutOut none busy)
 
   -- an offer of another TEID
   module _ (rows : List Row) (a : Row) (other number : ℕ) (differ : other ≡ teid → ⊥) where
+    -- a row that the offer is served by is the other's
+    others : (j : ℕ) → serving rows other ≡ At j → ofTeid other (offered (rowAt rows j) other number .1) ≡ true
+    others j q = own-after other number (rowAt rows j) (served-place rows other j q .1)
+
     never-own : (j : ℕ) → ofTeid teid (rowAt rows j) ≡ false → ofTeid teid (rowAt (AfterOffer rows other number) j) ≡ false
     never-own j e =
         at-place rows other number (λ (r : Row). ofTeid teid r ≡ false) j
-        (λ q. apart teid other (offered (rowAt rows j) other number .1) (own-after other number (rowAt rows j) (served-place rows other j q .1)) differ) e
+        (λ q. apart teid other (offered (rowAt rows j) other number .1) (others j q) differ) e
 
     other-step : State rows a → State (AfterOffer rows other number) a
     other-step (State.served i below own only same) =
@@ -198,14 +208,15 @@ module _ (teid : ℕ) where
         (λ j e. earlier j e (ofTeid teid (rowAt rows j)) refl)
         (stays ∙ same)
       where
-        earlier : (j : ℕ) → ofTeid teid (rowAt (AfterOffer rows other number) j) ≡ true → (z : Bool) → ofTeid teid (rowAt rows j) ≡ z → j ≡ i
+        earlier : (j : ℕ) → ofTeid teid (rowAt (AfterOffer rows other number) j) ≡ true → (z : Bool) → ofTeid teid (rowAt rows j) ≡ z
+            → j ≡ i
         earlier j e true q = only j q
         earlier j e false q = absurd (true≢false (sym e ∙ never-own j q))
     other-step (State.awaited none empty) = State.awaited (λ j. never-own j (none j)) empty
     other-step (State.shutOut none busy) =
         State.shutOut (λ j. never-own j (none j))
         (λ j h. at-place rows other number (λ (r : Row). free r ≡ false) j
-        (λ q. own-parts other (offered (rowAt rows j) other number .1) (own-after other number (rowAt rows j) (served-place rows other j q .1)) .0)
+        (λ q. own-parts other (offered (rowAt rows j) other number .1) (others j q) .0)
         (busy j (subst (λ (k : ℕ). j < k) (same-used rows other number) h)))
 
   -- OVER A HISTORY
@@ -250,7 +261,8 @@ module _ (teid : ℕ) where
           ∙ ap (λ (l : List Row). history l (ownOffers teid xs)) (lone-offer r (x .number) fit) ∙ own
       go false e own other = other
 
-module _ (rows : List Row) (xs : List Offer) (teid i : ℕ) (empty : AllFree rows) (own : ofTeid teid (rowAt (history rows xs) i) ≡ true) where
+module _ (rows : List Row) (xs : List Offer) (teid i : ℕ) (empty : AllFree rows)
+    (own : ofTeid teid (rowAt (history rows xs) i) ≡ true) where
   at-first : (lone : Row) → free lone ≡ true → State teid rows lone
   at-first lone fresh = State.awaited (λ j. rw (eq-eqb (rowAt rows j .seen) 0 (empty j))) fresh
 

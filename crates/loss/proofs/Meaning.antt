@@ -17,7 +17,8 @@ use Rattle.loss.specs.declared.Row.{Row}
 use Rattle.loss.proofs.Choosing.{below-or}
 use Rattle.loss.proofs.Telling.{new-is, repeated-is}
 use Rattle.loss.proofs.Offers.{Fit, served-row}
-use Rattle.loss.proofs.Histories.{Kept, Fine, offered-free, offered-full, offered-counted, fine-history, free-fine, new-fits, lost-fits}
+use Rattle.loss.proofs.Histories.{Kept, offered-free, offered-full, offered-counted, fine-history, free-fine}
+use Rattle.loss.proofs.Histories.{new-fits, lost-fits}
 use Rattle.loss.proofs.Alone.{own-parts, own-after, lone-offer, own-offers-alone, own-serves-next}
 
 -- NUMBERS IN ORDER
@@ -51,7 +52,8 @@ module _ (teid : ℕ) where
   }
 
   -- the next number in order is new, and passes over none
-  clean-next : (r : Row) (next k : ℕ) → next < 65536 → Clean teid r next k → Clean teid (offered r teid next .1) ((next + 1) % 65536) (k + 1)
+  clean-next : (r : Row) (next k : ℕ) → next < 65536 → Clean teid r next k
+      → Clean teid (offered r teid next .1) ((next + 1) % 65536) (k + 1)
   unfolding counted
   clean-next r next k small clean = ⊎-elim counts whole (clean .counting)
     where

@@ -1,4 +1,5 @@
--- One offer: it stores at the place that serves and nowhere else; a refusal changes nothing; rows past the 256th are neither read nor changed.
+-- One offer: it stores at the place that serves and nowhere else; a refusal changes nothing; rows past the 256th are neither read nor
+-- changed.
 use mathlib.Core.Path.{_≡_, refl, sym, _∙_, ap, subst}
 use mathlib.Core.Bool.{Bool, true, false, not, cond, _&&_, true≢false}
 use mathlib.Core.Logic.{_⊎_, inl, inr, ⊎-elim}
@@ -9,6 +10,7 @@ use lib.Dec.{ltb, eqb}
 use lib.ListN.{length, getD, set, length-set, length-append, List·getD-append}
 use lib.Seq.{getD-set-same, getD-set-other, set-getD}
 use borrow.Author.Tests.{ltb-false, eqb-true}
+use Rattle.rules.specs.Answer.{packedFields}
 use Rattle.rules.specs.declared.Found.{Found}
 use Rattle.rules.specs.declared.Found.the-variants.{At, Nothing}
 use Rattle.loss.specs.Loss.{rowAt, noRow, free, full, ofTeid, usedOf, orElse, lowest, serving}
@@ -66,7 +68,8 @@ module _ (rows : List Row) (teid : ℕ) where
     after = offer rows teid number .1
 
     by-place : (P : ℕ × List Row → Type 0) → (serving rows teid ≡ Nothing → P (25, rows))
-        → ((i : ℕ) → serving rows teid ≡ At i → P (offered (rowAt rows i) teid number .0, set rows i (offered (rowAt rows i) teid number .1)))
+        → ((i : ℕ) → serving rows teid ≡ At i
+        → P (offered (rowAt rows i) teid number .0, set rows i (offered (rowAt rows i) teid number .1)))
         → P (offer rows teid number)
     by-place P none some = go (serving rows teid) refl
       where
@@ -128,6 +131,31 @@ pub refused-stays : (rows : List Row) (teid number : ℕ) → (offer rows teid n
 refused-stays rows teid number =
     by-place rows teid number (λ (o : ℕ × List Row). (o .0 ≡ 0 → ⊥) → o .1 ≡ rows) (λ _ _. refl)
     (λ i _ n. ap (λ (r : Row). set rows i r) (offered-stays (rowAt rows i) teid number n) ∙ set-getD rows i noRow)
+
+-- THE ANSWER
+
+offered-answer : (r : Row) (teid number : ℕ) → (offered r teid number .0 ≡ 0) ⊎ (offered r teid number .0 ≡ 26)
+unfolding offered
+offered-answer r teid number = go (free r) (full r)
+  where
+    counts : ℕ × Row
+    counts = (0, counted r number (arrivalOf (distance number (r .highest))))
+
+    go : (z w : Bool) → let o : ℕ × Row = cond z (0, started teid number) (cond w (26, r) counts) in (o .0 ≡ 0) ⊎ (o .0 ≡ 26)
+    go true w = inl refl
+    go false true = inr refl
+    go false false = inl refl
+
+-- it is 0, 25 or 26
+pub one-answer : (rows : List Row) (teid number : ℕ)
+    → (offer rows teid number .0 ≡ 0) ⊎ ((offer rows teid number .0 ≡ 25) ⊎ (offer rows teid number .0 ≡ 26))
+one-answer rows teid number =
+    by-place rows teid number (λ (o : ℕ × List Row). (o .0 ≡ 0) ⊎ ((o .0 ≡ 25) ⊎ (o .0 ≡ 26))) (λ _. inr (inl refl))
+    (λ i _. ⊎-elim (λ e. inl e) (λ e. inr (inr e)) (offered-answer (rowAt rows i) teid number))
+
+-- and in the packed form of the calls: ICMP fields and length are 0
+pub answer-packed : (rows : List Row) (teid number : ℕ) → offer rows teid number .0 ≡ packedFields (offer rows teid number .0) 0 0 0 0
+answer-packed rows teid number = omega arith
 
 -- ROWS PAST THE 256TH
 

@@ -52,7 +52,8 @@ far-behind = refl
 
 abbrev row : (teid highest seen lost : ℕ) → Row
 row teid highest seen lost =
-    record { teid = teid; first = 1; highest = highest; seen = seen; new = 4294967295; repeated = 4294967295; late = 4294967295; lost = lost }
+    let most = 4294967295 in
+    record { teid = teid; first = 1; highest = highest; seen = seen; new = most; repeated = most; late = most; lost = lost }
 
 -- a row of the TEID behind a free one that holds the TEID, and before another of it; new wraps at 2^32, lost at 2^64
 lowest-own : offer (row 7 0 0 0 ∷ row 7 50 3 18446744073709551615 ∷ row 7 60 3 0 ∷ []) 7 53

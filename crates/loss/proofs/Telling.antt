@@ -73,7 +73,10 @@ module _ (number highest : ℕ) (small : number < 65536) (fits : highest < 65536
 
   pub new-is : (k : ℕ) → k ≤ 32766 → (highest + k + 1) % 65536 ≡ number → arrivalOf (distance number highest) ≡ New k
   unfolding distance
-  new-is k h e = let s : d ≡ k + 1 = omega arith in new-at d (omega arith) (omega arith) (omega arith) ∙ ap New (let t : d - 1 ≡ k = omega arith in t)
+  new-is k h e =
+      let s : d ≡ k + 1 = omega arith in
+      let t : d - 1 ≡ k = omega arith in
+      new-at d (omega arith) (omega arith) (omega arith) ∙ ap New t
 
   pub repeated-is : number ≡ highest → arrivalOf (distance number highest) ≡ Repeated
   unfolding distance
@@ -92,7 +95,8 @@ told-counted r r′ number small fits (Told.isNew k h e) = rw (new-is number (r 
 told-counted r r′ number small fits (Told.isRepeated e) = rw (repeated-is number (r .highest) small fits e)
 told-counted r r′ number small fits (Told.isLate k h l e) = rw (late-is number (r .highest) small fits k h l e)
 
-pub told-of : (r : Row) (number : ℕ) → number < 65536 → r .highest < 65536 → Told r number (counted r number (arrivalOf (distance number (r .highest))))
+pub told-of : (r : Row) (number : ℕ) → number < 65536 → r .highest < 65536
+    → Told r number (counted r number (arrivalOf (distance number (r .highest))))
 unfolding counted distance
 told-of r number small h =
     ⊎-elim (λ z. by-arrival Repeated (repeated-at d (omega arith) (omega arith)) (Told.isRepeated (omega arith)))
@@ -104,7 +108,8 @@ told-of r number small h =
     d : ℕ
     d = (number + 65536 - r .highest) % 65536
 
-    by-arrival : (a : Arrival) → arrivalOf (signedOf d) ≡ a → Told r number (counted r number a) → Told r number (counted r number (arrivalOf (signedOf d)))
+    by-arrival : (a : Arrival) → arrivalOf (signedOf d) ≡ a → Told r number (counted r number a)
+        → Told r number (counted r number (arrivalOf (signedOf d)))
     by-arrival a e t = subst (λ (x : Arrival). Told r number (counted r number x)) (sym e) t
 
 module _ (rows : List Row) (teid number : ℕ) (small : number < 65536) (fits : Fits rows) where
@@ -131,7 +136,8 @@ module _ (rows : List Row) (teid number : ℕ) (small : number < 65536) (fits : 
       offer-full rows teid number i (below (length rows) i (low .used)) (held teid (rowAt rows i) (low .holds)) (none-before i low) e
 
   -- the answer that an equation gives
-  given : (a : ℕ) (rows′ : List Row) → Answers rows teid number a rows′ → Answers rows teid number (offer rows teid number .0) (offer rows teid number .1)
+  given : (a : ℕ) (rows′ : List Row) → Answers rows teid number a rows′
+      → Answers rows teid number (offer rows teid number .0) (offer rows teid number .1)
   given a rows′ told = subst (λ (o : ℕ × List Row). Answers rows teid number (o .0) (o .1)) (answers-offer a rows′ told) told
 
   pub offer-answers : Answers rows teid number (offer rows teid number .0) (offer rows teid number .1)
@@ -142,7 +148,8 @@ module _ (rows : List Row) (teid number : ℕ) (small : number < 65536) (fits : 
 
       go : (t f : Found) → lowest (ofTeid teid) rows n ≡ t → lowest free rows n ≡ f
           → Answers rows teid number (offer rows teid number .0) (offer rows teid number .1)
-      go (At i) f p q = ⊎-elim (λ e. given _ _ (Answers.isFull i low e)) (λ e. given _ _ (counted-at (fewer e))) (same-or (rowAt rows i .seen) 4294967295)
+      go (At i) f p q =
+          ⊎-elim (λ e. given _ _ (Answers.isFull i low e)) (λ e. given _ _ (counted-at (fewer e))) (same-or (rowAt rows i .seen) 4294967295)
         where
           low : LowestOwn rows teid i
           low =
@@ -154,10 +161,14 @@ module _ (rows : List Row) (teid number : ℕ) (small : number < 65536) (fits : 
               }
 
           fewer : (rowAt rows i .seen ≡ 4294967295 → ⊥) → rowAt rows i .seen < 4294967295
-          fewer n = let w = fits i .1 in ⊎-elim (λ e. absurd (n e)) (λ l. l) (eq-or-lt-of-le (let h : rowAt rows i .seen ≤ 4294967295 = omega arith in h))
+          fewer n =
+              let w = fits i .1 in
+              let h : rowAt rows i .seen ≤ 4294967295 = omega arith in
+              ⊎-elim (λ e. absurd (n e)) (λ l. l) (eq-or-lt-of-le h)
 
           counted-at : rowAt rows i .seen < 4294967295
-              → Answers rows teid number 0 (set rows i (counted (rowAt rows i) number (arrivalOf (distance number (rowAt rows i .highest)))))
+              → Answers rows teid number 0
+              (set rows i (counted (rowAt rows i) number (arrivalOf (distance number (rowAt rows i .highest)))))
           counted-at h = Answers.counts i _ low h (told-of (rowAt rows i) number small (fits i .0))
       go Nothing (At i) p q =
           let a = lowest-at free rows n i q in
