@@ -52,7 +52,7 @@ far-behind = refl
 
 abbrev row : (teid highest seen lost : ℕ) → Row
 row teid highest seen lost =
-    let most = 4294967295 in
+    let most : ℕ = 4294967295 in
     record { teid = teid; first = 1; highest = highest; seen = seen; new = most; repeated = most; late = most; lost = lost }
 
 -- a row of the TEID behind a free one that holds the TEID, and before another of it; new wraps at 2^32, lost at 2^64
