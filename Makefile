@@ -134,7 +134,7 @@ demo: demo-packages staticlib target/tools/kawsarpa
 demo-packages:
 	$(call install,gcc:gcc $(filter-out clang-tidy:%,$(tool_needs)))
 
-# what a call costs, in instructions and in time, beside a translation written by hand in C and a plain copy
+# what a call and an offer cost, in instructions and in time, beside the same written by hand in C and a plain copy
 bench: bench-packages staticlib
 	cargo build --release --offline --quiet --manifest-path tests/second/Cargo.toml
 	bench/run.sh $(archive) $(second) target/bench

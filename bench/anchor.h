@@ -1,4 +1,4 @@
-/* The translation written by hand in C: what the library's cost is held against. Same arguments, same answers, same octets sent. */
+/* The library's functions written by hand in C: what their cost is held against. Same arguments, same answers, same octets. */
 #ifndef ANCHOR_H
 #define ANCHOR_H
 
@@ -15,6 +15,12 @@ uint64_t anchor_at_entry(const struct kawsarpa_entry *entry, const struct kawsar
                          uint8_t *out, size_t out_len);
 
 uint64_t anchor_at_rule(const struct kawsarpa_rule *rule, const uint8_t *packet, size_t packet_len, uint8_t *out, size_t out_len);
+
+uint64_t anchor_loss_offer(struct kawsarpa_loss_row *rows, size_t count, uint32_t teid, uint16_t number);
+
+uint64_t anchor_sequence_ipv6(const uint8_t *packet, size_t packet_len);
+
+uint64_t anchor_sequence_ipv4(const uint8_t *packet, size_t packet_len);
 
 /* A table's records. */
 struct anchor_table {

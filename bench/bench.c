@@ -2,7 +2,8 @@
 
        kind|octets|records|order|load|subject...
 
-   All subjects of a line are measured together, batch by batch. */
+   All subjects of a line are measured together, batch by batch. An offer's kind is its arrival and its records are rows; a reader's kind
+   is IPv6 or IPv4. */
 #include "anchor.h"
 #include "cases.h"
 #include "measure.h"
@@ -15,6 +16,7 @@ enum { STRIDE = 1600 }; /* an odd number of cache lines, so that packets spread 
 
 static uint8_t ring[(size_t)RING * STRIDE], out[OUT_SIZE];
 static struct table table;
+static struct kawsarpa_loss_row rows[KAWSARPA_LOSS_ROWS_MAX];
 
 /* The record that the first packet matches, for the anchor without a table. */
 static const void *found;
@@ -45,6 +47,12 @@ static uint64_t bare_ipv4(const uint8_t *packet, size_t packet_len, const uint8_
     return anchor_at_rule(found, packet, packet_len, to, to_len);
 }
 
+static uint64_t nothing_offered(struct kawsarpa_loss_row *lent, size_t count, uint32_t teid, uint16_t number)
+{
+    (void)lent, (void)count, (void)teid, (void)number;
+    return 0;
+}
+
 static uint64_t anchor_soundness(const uint8_t *packet, size_t packet_len, const uint8_t *octets, size_t octets_len, uint8_t *to, size_t to_len)
 {
     struct anchor_table records;
@@ -56,6 +64,34 @@ static uint64_t library_soundness(const uint8_t *packet, size_t packet_len, cons
 {
     (void)packet, (void)packet_len, (void)to, (void)to_len;
     return kawsarpa_table_fault(octets, octets_len);
+}
+
+static uint64_t anchor_reader6(const uint8_t *packet, size_t packet_len, const uint8_t *octets, size_t octets_len, uint8_t *to,
+                               size_t to_len)
+{
+    (void)octets, (void)octets_len, (void)to, (void)to_len;
+    return anchor_sequence_ipv6(packet, packet_len);
+}
+
+static uint64_t anchor_reader4(const uint8_t *packet, size_t packet_len, const uint8_t *octets, size_t octets_len, uint8_t *to,
+                               size_t to_len)
+{
+    (void)octets, (void)octets_len, (void)to, (void)to_len;
+    return anchor_sequence_ipv4(packet, packet_len);
+}
+
+static uint64_t library_reader6(const uint8_t *packet, size_t packet_len, const uint8_t *octets, size_t octets_len, uint8_t *to,
+                                size_t to_len)
+{
+    (void)octets, (void)octets_len, (void)to, (void)to_len;
+    return kawsarpa_sequence_ipv6(packet, packet_len);
+}
+
+static uint64_t library_reader4(const uint8_t *packet, size_t packet_len, const uint8_t *octets, size_t octets_len, uint8_t *to,
+                                size_t to_len)
+{
+    (void)octets, (void)octets_len, (void)to, (void)to_len;
+    return kawsarpa_sequence_ipv4(packet, packet_len);
 }
 
 static void fail(const char *what, const char *kind)
@@ -82,6 +118,14 @@ static void check(const struct kind *kind, const struct load *l, call *const sen
 
 static const char *const names[SUBJECTS_MOST] = {"memcpy", "bare", "anchor", "library"};
 
+static void print_times(const char *where, const double ns[], const char *const called[], unsigned int n)
+{
+    printf("%s", where);
+    for (unsigned int s = 0; s < n; s++)
+        printf("|%s=%.2f", called[s], ns[s]);
+    printf("\n");
+}
+
 static void measure(int count, const char *where, const struct load *l, call *const subjects[], const char *const called[], unsigned int n)
 {
     double ns[SUBJECTS_MOST];
@@ -94,10 +138,7 @@ static void measure(int count, const char *where, const struct load *l, call *co
         return;
     }
     measure_times(l, subjects, n, ns);
-    printf("%s", where);
-    for (unsigned int s = 0; s < n; s++)
-        printf("|%s=%.2f", called[s], ns[s]);
-    printf("\n");
+    print_times(where, ns, called, n);
 }
 
 /* A kind with packets of a size and one of its tables: the same packet again and again, then the ring. */
@@ -140,6 +181,53 @@ static void measure_soundness(int count, const char *name)
     measure(count, where, &l, subjects, names + 2, 2);
 }
 
+/* The offer gets the answer of its arrival, and anchor and library leave the same rows. */
+static void check_offers(const struct arrival *arrival, size_t row_count)
+{
+    static struct kawsarpa_loss_row by_anchor[KAWSARPA_LOSS_ROWS_MAX], by_library[KAWSARPA_LOSS_ROWS_MAX];
+    const struct offers a = make_offers(arrival, row_count, by_anchor), l = make_offers(arrival, row_count, by_library);
+    const uint64_t answer = arrival->last == ROW_OF_ANOTHER ? KAWSARPA_ANSWER_NO_ROW : 0;
+    if (kawsarpa_loss_offer(l.rows, l.count, l.teid, l.number) != answer)
+        fail("another answer", arrival->name);
+    if (anchor_loss_offer(a.rows, a.count, a.teid, a.number) != answer || memcmp(by_anchor, by_library, sizeof by_anchor) != 0)
+        fail("anchor and library differ", arrival->name);
+}
+
+static void measure_offers(int count, const struct arrival *arrival, size_t row_count)
+{
+    offer *const subjects[2] = {anchor_loss_offer, kawsarpa_loss_offer};
+    struct offers o = make_offers(arrival, row_count, rows);
+    double ns[2];
+    char where[96], label[128];
+    check_offers(arrival, row_count);
+    snprintf(where, sizeof where, "%s|0|%zu|last|offer", arrival->name, row_count);
+    if (count) {
+        for (unsigned int s = 0; s < 2; s++) {
+            snprintf(label, sizeof label, "%s|%s", where, names[2 + s]);
+            measure_offer_instructions(&o, subjects[s], label);
+        }
+        return;
+    }
+    measure_offer_times(&o, subjects, 2, ns);
+    print_times(where, ns, names + 2, 2);
+}
+
+static void measure_readers(int count, bool ipv4)
+{
+    call *const subjects[2][2] = {{anchor_reader6, library_reader6}, {anchor_reader4, library_reader4}};
+    const struct load l = {ring, STRIDE, sizes[1], 1, table.octets, 0, out, 0};
+    const char *const name = ipv4 ? "IPv4" : "IPv6";
+    char where[96];
+    make_numbered(ipv4, ring, l.size);
+    const uint64_t sequence = subjects[ipv4][1](ring, l.size, NULL, 0, NULL, 0);
+    if (!kawsarpa_sequence_found(sequence))
+        fail("no sequence number is found", name);
+    if (subjects[ipv4][0](ring, l.size, NULL, 0, NULL, 0) != sequence)
+        fail("anchor and library differ", name);
+    snprintf(where, sizeof where, "%s|%zu|0|-|reader", name, l.size);
+    measure(count, where, &l, subjects[ipv4], names + 2, 2);
+}
+
 int main(int argc, char **argv)
 {
     const int count = argc == 2 && strcmp(argv[1], "count") == 0;
@@ -149,7 +237,9 @@ int main(int argc, char **argv)
     }
     if (count) {
         const struct load none = {ring, STRIDE, 0, 1, ring, 0, out, 0};
+        struct offers offers = make_offers(&arrivals[0], 1, rows);
         measure_instructions(&none, nothing, "nothing");
+        measure_offer_instructions(&offers, nothing_offered, "nothing offered");
     }
     for (unsigned int k = 0; k < kind_count; k++)
         for (unsigned int s = 0; s < SIZES; s++)
@@ -168,5 +258,10 @@ int main(int argc, char **argv)
         make_full_table(shuffled != 0, &table);
         measure_soundness(count, "full");
     }
+    for (unsigned int c = 0; c < ROW_COUNTS; c++)
+        for (unsigned int a = 0; a < arrival_count; a++)
+            measure_offers(count, &arrivals[a], row_counts[c]);
+    for (int ipv4 = 0; ipv4 < 2; ipv4++)
+        measure_readers(count, ipv4 != 0);
     return 0;
 }

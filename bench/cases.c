@@ -1,4 +1,4 @@
-/* Packets and tables of each kind. All are made from numbers, so that every run has the same. */
+/* Packets and tables of each kind, rows of each arrival. All are made from numbers, so that every run has the same. */
 #include "cases.h"
 #include "formats.h"
 
@@ -177,4 +177,40 @@ void make_packet(const struct kind *kind, unsigned int records, unsigned int num
         packet[IPV6_SIZE + 3] = 1;
         memcpy(packet + IPV6_SIZE + SRH_SIZE, source, ADDRESS);
     }
+}
+
+void make_numbered(bool ipv4, uint8_t *packet, size_t size)
+{
+    const struct kind kind = {"", ipv4, KAWSARPA_BEHAVIOUR_END_M_GTP6_D, 64, 1};
+    uint8_t *gtpu = packet + (ipv4 ? IPV4_SIZE : IPV6_SIZE) + UDP_SIZE;
+    make_packet(&kind, 1, 0, packet, size);
+    gtpu[0] |= 2;
+    kawsarpa_put16(gtpu + 8, 7);
+}
+
+const struct arrival arrivals[] = {
+    {"new", ROW_OF_TEID, 1, 1},
+    {"repeated", ROW_OF_TEID, 0, 0},
+    {"late", ROW_OF_TEID, -1, 0},
+    {"row taken", ROW_FREE, 0, 0},
+    {"no row free", ROW_OF_ANOTHER, 0, 0},
+};
+const unsigned int arrival_count = sizeof arrivals / sizeof arrivals[0];
+
+const size_t row_counts[ROW_COUNTS] = {1, 16, KAWSARPA_LOSS_ROWS_MAX};
+
+struct offers make_offers(const struct arrival *a, size_t count, struct kawsarpa_loss_row rows[KAWSARPA_LOSS_ROWS_MAX])
+{
+    const uint32_t teid = 1000;
+    const uint16_t highest = 1000;
+    struct kawsarpa_loss_row *last = &rows[count - 1];
+    for (size_t i = 0; i < count; i++) {
+        const uint32_t other = teid + 1 + (uint32_t)i;
+        rows[i] = (struct kawsarpa_loss_row){.teid = other, .first = highest, .highest = highest, .seen = 1, .new = 1};
+    }
+    if (a->last == ROW_OF_TEID)
+        last->teid = teid;
+    if (a->last == ROW_FREE)
+        memset(last, 0, sizeof *last);
+    return (struct offers){rows, count, teid, (uint16_t)(highest + a->distance), a->step, a->last == ROW_FREE ? last : NULL};
 }

@@ -1,12 +1,13 @@
-/* What is measured: a kind of translation with its packets and its tables. */
+/* What is measured: a kind of translation with its packets and its tables; an arrival of a sequence number with its rows. */
 #ifndef CASES_H
 #define CASES_H
 
 #include "anchor.h"
+#include "measure.h"
 
 #include <stdbool.h>
 
-enum { RING = 4096, PACKET_MOST = 1500, OUT_SIZE = 2048, SIZES = 3, TABLES = 5 };
+enum { RING = 4096, PACKET_MOST = 1500, OUT_SIZE = 2048, SIZES = 3, TABLES = 5, ROW_COUNTS = 3 };
 
 /* The octets of a table: as many as the largest has. */
 enum { TABLE_MOST = 16 + 64 * 64 + 16 * 160 + 16 * 288 };
@@ -41,5 +42,24 @@ void make_full_table(bool shuffled, struct table *table);
 /* A packet of `size` octets that a table of the kind sends on. Its number says which of `records` records it matches, and
    what Args it carries. */
 void make_packet(const struct kind *kind, unsigned int records, unsigned int number, uint8_t *packet, size_t size);
+
+/* A G-PDU of `size` octets with a sequence number. */
+void make_numbered(bool ipv4, uint8_t *packet, size_t size);
+
+/* An offer by what it meets. The last row is of its TEID, free or of another TEID; all rows before are used and of other TEIDs. */
+struct arrival {
+    const char *name;
+    enum { ROW_OF_TEID, ROW_FREE, ROW_OF_ANOTHER } last;
+    int distance;  /* of the first number from the highest */
+    uint16_t step; /* from one number to the next */
+};
+
+extern const struct arrival arrivals[];
+extern const unsigned int arrival_count;
+
+extern const size_t row_counts[ROW_COUNTS];
+
+/* The offers of an arrival, and the rows that they are made to. */
+struct offers make_offers(const struct arrival *arrival, size_t count, struct kawsarpa_loss_row rows[KAWSARPA_LOSS_ROWS_MAX]);
 
 #endif

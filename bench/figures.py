@@ -1,12 +1,13 @@
 """The figures of one `make bench`: what `bench time` printed, and callgrind's files of `bench count`.
 
-A case is (kind, octets, records, order, load); its subjects are memcpy, bare, anchor and library."""
+A case is (kind, octets, records, order, load); its subjects are memcpy, bare, anchor and library. Of an offer, load "offer", the
+kind is the arrival and the records are rows; of a reader of sequence numbers, load "reader", the kind is IPv6 or IPv4."""
 import collections
 import glob
 import re
 import subprocess
 
-# What the function that does nothing executes itself.
+# What a function that does nothing executes itself.
 NOTHING = 2
 
 
@@ -44,12 +45,13 @@ def read_dump(name):
 def read_counts(directory):
     """Instructions by case and subject, less what calling a function that does nothing takes; and the executed addresses."""
     dumps = dict(read_dump(name) for name in glob.glob(directory + "/dump.*"))
-    calling = sum(dumps.pop("nothing").values()) - NOTHING
+    calling, offering = (sum(dumps.pop(name).values()) - NOTHING for name in ("nothing", "nothing offered"))
     counts, executed = {}, {}
     for label, addresses in dumps.items():
-        *where, subject = label.split("|")
-        counts.setdefault(case(where), {})[subject] = sum(addresses.values()) - calling
-        executed[(case(where), subject)] = addresses
+        *fields, subject = label.split("|")
+        where = case(fields)
+        counts.setdefault(where, {})[subject] = sum(addresses.values()) - (offering if where[4] == "offer" else calling)
+        executed[(where, subject)] = addresses
     return counts, executed
 
 

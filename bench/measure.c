@@ -33,12 +33,51 @@ static double ns_per_tick(void)
     return known;
 }
 
-/* The ticks of BATCH calls with the packets from `first` on. */
-static uint64_t batch(const struct load *l, call *subject, unsigned int first)
+/* The ticks of BATCH calls, or offers, of one of the subjects of `work`. */
+typedef uint64_t batch(void *work, unsigned int subject);
+
+struct calls {
+    const struct load *load;
+    call *const *subjects;
+    unsigned int first;
+};
+
+/* Each batch goes on where the last one stopped, so no subject finds packets that another has just read. */
+static uint64_t batch_of_calls(void *work, unsigned int s)
 {
+    struct calls *c = work;
+    const struct load *l = c->load;
+    call *const subject = c->subjects[s];
+    const unsigned int first = c->first;
     const uint64_t begin = ticks();
     for (unsigned int i = 0; i < BATCH; i++)
         subject(l->packets + l->stride * ((first + i) & (l->count - 1)), l->size, l->table, l->table_len, l->out, l->out_len);
+    c->first += BATCH;
+    return ticks() - begin;
+}
+
+static void go_on(struct offers *o)
+{
+    o->number = (uint16_t)(o->number + o->step);
+    if (o->cleared != NULL)
+        *o->cleared = (struct kawsarpa_loss_row){0};
+}
+
+struct offered {
+    struct offers *offers;
+    offer *const *subjects;
+};
+
+static uint64_t batch_of_offers(void *work, unsigned int s)
+{
+    const struct offered *w = work;
+    struct offers *o = w->offers;
+    offer *const subject = w->subjects[s];
+    const uint64_t begin = ticks();
+    for (unsigned int i = 0; i < BATCH; i++) {
+        subject(o->rows, o->count, o->teid, o->number);
+        go_on(o);
+    }
     return ticks() - begin;
 }
 
@@ -48,21 +87,32 @@ static int ascending(const void *a, const void *b)
     return x < y ? -1 : x > y;
 }
 
-void measure_times(const struct load *l, call *const subjects[], unsigned int subject_count, double ns[])
+static void take_times(batch *of, void *work, unsigned int subject_count, double ns[])
 {
     static uint64_t taken[SUBJECTS_MOST][ROUNDS_MOST];
-    unsigned int rounds = 0, first = 0;
+    unsigned int rounds = 0;
     const uint64_t begin = ticks();
     while (rounds < ROUNDS_MOST && (rounds < ROUNDS_LEAST || ticks() - begin < TICKS)) {
-        /* each batch goes on where the last one stopped, so no subject finds packets that another has just read */
-        for (unsigned int s = 0; s < subject_count; s++, first += BATCH)
-            taken[s][rounds] = batch(l, subjects[s], first);
+        for (unsigned int s = 0; s < subject_count; s++)
+            taken[s][rounds] = of(work, s);
         rounds++;
     }
     for (unsigned int s = 0; s < subject_count; s++) {
         qsort(taken[s], rounds, sizeof taken[s][0], ascending);
         ns[s] = (double)taken[s][rounds * PERCENTILE / 100] * ns_per_tick() / BATCH;
     }
+}
+
+void measure_times(const struct load *l, call *const subjects[], unsigned int subject_count, double ns[])
+{
+    struct calls work = {l, subjects, 0};
+    take_times(batch_of_calls, &work, subject_count, ns);
+}
+
+void measure_offer_times(struct offers *o, offer *const subjects[], unsigned int subject_count, double ns[])
+{
+    struct offered work = {o, subjects};
+    take_times(batch_of_offers, &work, subject_count, ns);
 }
 
 void measure_instructions(const struct load *l, call *subject, const char *label)
@@ -74,6 +124,19 @@ void measure_instructions(const struct load *l, call *subject, const char *label
         CALLGRIND_TOGGLE_COLLECT;
         made(l->packets, l->size, l->table, l->table_len, l->out, l->out_len);
         CALLGRIND_TOGGLE_COLLECT;
+    }
+    CALLGRIND_DUMP_STATS_AT(label);
+}
+
+void measure_offer_instructions(struct offers *o, offer *subject, const char *label)
+{
+    offer *volatile made = subject;
+    for (int i = 0; i < 2; i++) {
+        CALLGRIND_ZERO_STATS;
+        CALLGRIND_TOGGLE_COLLECT;
+        made(o->rows, o->count, o->teid, o->number);
+        CALLGRIND_TOGGLE_COLLECT;
+        go_on(o);
     }
     CALLGRIND_DUMP_STATS_AT(label);
 }

@@ -1,9 +1,8 @@
-/* How long a call takes, and, under callgrind, how many instructions. */
+/* How long a call or an offer takes, and, under callgrind, how many instructions. */
 #ifndef MEASURE_H
 #define MEASURE_H
 
-#include <stddef.h>
-#include <stdint.h>
+#include "kawsarpa.h"
 
 typedef uint64_t call(const uint8_t *packet, size_t packet_len, const uint8_t *table, size_t table_len, uint8_t *out, size_t out_len);
 
@@ -25,5 +24,21 @@ void measure_times(const struct load *load, call *const subjects[], unsigned int
 
 /* One call with the first packet, written to a file by callgrind under this label; the call of a function that does nothing first. */
 void measure_instructions(const struct load *load, call *subject, const char *label);
+
+typedef uint64_t offer(struct kawsarpa_loss_row *rows, size_t count, uint32_t teid, uint16_t number);
+
+/* What the offers are given. Behind each, the number grows by `step`, and the row `cleared`, unless it is NULL, is made free. */
+struct offers {
+    struct kawsarpa_loss_row *rows;
+    size_t count;
+    uint32_t teid;
+    uint16_t number, step;
+    struct kawsarpa_loss_row *cleared;
+};
+
+/* The same of offers. */
+void measure_offer_times(struct offers *offers, offer *const subjects[], unsigned int subject_count, double ns[]);
+
+void measure_offer_instructions(struct offers *offers, offer *subject, const char *label);
 
 #endif

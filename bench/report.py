@@ -1,32 +1,59 @@
 #!/usr/bin/env python3
 """report.py TIMES DUMPS PROGRAM: the figures of `make bench` as text.
 
-Status 1 if the anchor without a table is over its limits: then it is no measure for the library."""
+Status 1 if the anchor, without a table or at an offer, is over its limits: then it is no measure for the library."""
 import collections
 import sys
 
 import figures
 
-# Instructions of D with three SIDs without a table, by octets that arrive.
+# Instructions of D with three SIDs without a table, by octets that arrive, and of the offer of a new number, by rows.
 LIMITS = {164: 260, 1500: 400}
+OFFER_LIMITS = {1: 38, 16: 173, 256: 2333}
 
 DI_164 = ("Di, 3 SIDs", 164, 8, "in order", "hot")
 DI_1500 = ("Di, 3 SIDs", 1500, 8, "in order", "hot")
 FULL = ("full", 0, 64, "in order", "soundness")
 D4 = ("D4, 2 waypoints", 164, 8, "in order", "hot")
+READER = ("IPv6", 164, 0, "-", "reader")
+
+ARRIVALS = ("new", "repeated", "late", "row taken", "no row free")
+
+
+def offer(arrival, rows):
+    return (arrival, 0, rows, "last", "offer")
+
+
+def said(rows):
+    return "1 row" if rows == 1 else f"{rows} rows"
+
 
 # What is asked of the library, by instructions: what, where, the most that library / anchor may be.
 TARGETS = [
     ("Di at 164 octets, 8 entries in order", DI_164, 1.5),
     ("Di at 1,500 octets, 8 entries in order", DI_1500, 1.3),
     ("soundness of a full table in order", FULL, 1.5),
+    *((f"offer at {said(rows)}, {arrival}", offer(arrival, rows), 1.25) for rows in OFFER_LIMITS for arrival in ARRIVALS),
 ]
 
 # Functions of the measuring program, which are not what is measured.
-CALLERS = ("measure_instructions", "library_soundness", "anchor_soundness")
+CALLERS = ("measure_instructions", "measure_offer_instructions", "library_soundness", "anchor_soundness", "library_reader6",
+           "anchor_reader6")
 
 # Of these cases the instructions are shown by function.
-TAKEN_APART = [DI_164, DI_1500, D4, FULL]
+TAKEN_APART = [DI_164, DI_1500, D4, FULL, offer("new", 256), offer("no row free", 256), READER]
+
+
+def beside(c, t):
+    """Instructions and nanoseconds of anchor and library, and their ratios."""
+    return (f"|{c['anchor']:>8}{c['library']:>9}{c['library'] / c['anchor']:>6.2f} |"
+            f"{t['anchor']:>9.1f}{t['library']:>9.1f}{t['library'] / t['anchor']:>6.2f}")
+
+
+def print_heads(title):
+    """The heads of columns that `beside` fills."""
+    print(f"{'':{len(title)}}|{'instructions':^24}|{'ns':^24}")
+    print(f"{title}|{'anchor':>8}{'library':>9}{'l/a':>6} |{'anchor':>9}{'library':>9}{'l/a':>6}")
 
 
 def print_calls(counts, times):
@@ -53,14 +80,27 @@ def print_calls(counts, times):
 
 def print_soundness(counts, times):
     print("\nSoundness alone, a part of every call. full: 64 entries of all kinds, 16 rules, 16 policies.\n")
-    print(f"{'':35} |{'instructions':^24}|{'ns':^24}")
-    print(f"{'table of':16}{'records':>8}{'order':>10}  |{'anchor':>8}{'library':>9}{'l/a':>6} |{'anchor':>9}{'library':>9}{'l/a':>6}")
+    print_heads(f"{'table of':16}{'records':>8}{'order':>10}  ")
     for where in times:
         kind, _, records, order, load = where
         if load == "soundness":
-            c, t = counts[where], times[where]
-            print(f"{kind:16}{records:>8}{order:>10}  |{c['anchor']:>8}{c['library']:>9}{c['library'] / c['anchor']:>6.2f} |"
-                  f"{t['anchor']:>9.1f}{t['library']:>9.1f}{t['library'] / t['anchor']:>6.2f}")
+            print(f"{kind:16}{records:>8}{order:>10}  {beside(counts[where], times[where])}")
+
+
+def print_offers(counts, times):
+    print("\nThe offer of a sequence number. All rows are used, and that of the TEID is the last; row taken: the last is free instead;")
+    print("no row free: it is of another TEID.\n")
+    print_heads(f"{'offer':12}{'rows':>6}  ")
+    for where in times:
+        arrival, _, rows, _, load = where
+        if load == "offer":
+            print(f"{arrival:12}{rows:>6}  {beside(counts[where], times[where])}")
+    print("\nTEID and sequence number read from a packet.\n")
+    print_heads(f"{'packet':10}{'octets':>8}  ")
+    for where in times:
+        version, octets, _, _, load = where
+        if load == "reader":
+            print(f"{version:10}{octets:>8}  {beside(counts[where], times[where])}")
 
 
 def print_packets(times):
@@ -101,14 +141,18 @@ def print_targets(counts):
         print(f"  {name}: {c['library']} / {c['anchor']} = {of:.2f}, at most {most}: {'holds' if of <= most else 'does not hold'}")
 
 
+def within(what, instructions, most):
+    print(f"  {what}: {instructions} instructions, at most {most}: {'holds' if instructions <= most else 'DOES NOT HOLD'}")
+    return instructions <= most
+
+
 def check_anchor(counts):
-    well = True
     print("\nThe anchor without a table, D with three SIDs")
-    for octets, most in LIMITS.items():
-        bare = counts[("D, 3 SIDs", octets, 1, "in order", "hot")]["bare"]
-        well = well and bare <= most
-        print(f"  {octets} octets: {bare} instructions, at most {most}: {'holds' if bare <= most else 'DOES NOT HOLD'}")
-    return well
+    well = [within(f"{octets} octets", counts[("D, 3 SIDs", octets, 1, "in order", "hot")]["bare"], most)
+            for octets, most in LIMITS.items()]
+    print("\nThe anchor's offer of a new number")
+    well += [within(said(rows), counts[offer("new", rows)]["anchor"], most) for rows, most in OFFER_LIMITS.items()]
+    return all(well)
 
 
 def main():
@@ -118,6 +162,7 @@ def main():
     counts, executed = figures.read_counts(sys.argv[2])
     print_calls(counts, times)
     print_soundness(counts, times)
+    print_offers(counts, times)
     print_packets(times)
     print_parts(counts, executed, figures.functions(sys.argv[3]))
     print_targets(counts)

@@ -1,5 +1,6 @@
 #!/usr/bin/env bash
-# run.sh LIB SECOND DIR: what a call of the library costs, beside the anchor and a copy. What is built and measured is left in DIR.
+# run.sh LIB SECOND DIR: what a call of the library costs, beside the anchor and a copy, and an offer beside the anchor's. What is built
+# and measured is left in DIR.
 set -eu -o pipefail
 
 if [ $# -ne 3 ]; then
@@ -12,19 +13,24 @@ flags=(-std=c11 -D_GNU_SOURCE -O3 -g -Wall -Wextra -Wpedantic -Wshadow -Wconvers
 rm -rf "$dir"
 mkdir -p "$dir/dumps"
 
-for name in anchor anchor_table cases measure bench; do
+for name in anchor anchor_table anchor_loss anchor_sequence cases measure bench; do
     gcc "${flags[@]}" -c -o "$dir/$name.o" "$here/$name.c"
 done
-gcc -Wl,-z,now -o "$dir/bench" "$dir"/{bench,measure,cases,anchor,anchor_table}.o "$lib"
+gcc -Wl,-z,now -o "$dir/bench" "$dir"/{bench,measure,cases,anchor,anchor_table,anchor_loss,anchor_sequence}.o "$lib"
 
-# The anchor counts only if it agrees: the cases that tests/c/vectors.sh puts to the library, put to the anchor under its names.
-gcc "${flags[@]}" -Dkawsarpa_translate_ipv6=anchor_translate_ipv6 -Dkawsarpa_translate_ipv4=anchor_translate_ipv4 \
-    -o "$dir/agree" "$here/../tests/c/vectors.c" "$dir"/{anchor,anchor_table}.o
+# The anchor counts only if it agrees: the lines that tests/c/vectors.sh puts to the library, put to the anchor under its names.
+renamed=()
+for name in translate_ipv6 translate_ipv4 loss_offer sequence_ipv6 sequence_ipv4; do
+    renamed+=("-Dkawsarpa_$name=anchor_$name")
+done
+gcc "${flags[@]}" "${renamed[@]}" -o "$dir/agree" "$here/../tests/c/vectors.c" "$dir"/{anchor,anchor_table,anchor_loss,anchor_sequence}.o
 {
     echo "The anchor judged by the second program"
     "$second" vectors --seed 1 --per-kind 2000 | "$dir/agree"
     "$second" vectors --seed 5 --per-kind 600 --max-packet 2500 | "$dir/agree"
     "$second" vectors --seed 7 --per-kind 200 --max-packet 65600 | "$dir/agree"
+    "$second" loss-vectors --seed 1 --cases 2000 | "$dir/agree"
+    "$second" sequence-vectors --seed 1 --cases 10000 | "$dir/agree"
     echo
 } | tee "$dir/table.txt"
 
