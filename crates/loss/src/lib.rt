@@ -39,6 +39,19 @@ fn counted(row: Row, number: u16) -> Row
 {
     let d = std::num::wrapping_sub_u16(number, row.highest);
     let distance = signed(d);
+    if distance == 0 {
+        let repeated = std::num::wrapping_add_u32(row.repeated, 1);
+        return Row {
+            teid: row.teid,
+            first: row.first,
+            highest: row.highest,
+            seen: row.seen + 1,
+            new: row.new,
+            repeated,
+            late: row.late,
+            lost: row.lost,
+        };
+    }
     if distance > 0 {
         let new = std::num::wrapping_add_u32(row.new, 1);
         let lost = std::num::wrapping_add_u64(row.lost, (d - 1) as u64);
@@ -51,19 +64,6 @@ fn counted(row: Row, number: u16) -> Row
             repeated: row.repeated,
             late: row.late,
             lost,
-        };
-    }
-    if distance == 0 {
-        let repeated = std::num::wrapping_add_u32(row.repeated, 1);
-        return Row {
-            teid: row.teid,
-            first: row.first,
-            highest: row.highest,
-            seen: row.seen + 1,
-            new: row.new,
-            repeated,
-            late: row.late,
-            lost: row.lost,
         };
     }
     let late = std::num::wrapping_add_u32(row.late, 1);
@@ -143,7 +143,7 @@ pub fn offer(rows: &mut [Row], teid: u32, number: u16) -> u64
         }
         place += 1;
     }
-    if place != n {
+    if place < n {
         rows[place] = started(teid, number);
         return 0;
     }

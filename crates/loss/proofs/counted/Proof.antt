@@ -30,28 +30,28 @@ module _ (c : tie.After-signed) where
   test : (b : Bool) → ltZ (pos 0) (toZ w16 (ofZ w16 (c .signed .result))) ≡ b → ltZ (pos 0) (toZ w16 d) ≡ b
   test b e = rw bits at e
 
-sub-wrapping-add-u64 : tie.Need-sub-wrapping-add-u64
-sub-wrapping-add-u64 c = let s = c .before .before in above (d s) (small s) (test s true (c .before .if1 .taken)) .0
-
 returns : tie.Need-returns
 unfolding counted
 returns c =
-    let s = c .before .before .before .before in
-    let p = above (d s) (small s) (test s true (c .before .before .before .if1 .taken)) in
-    rw (arrives s ∙ new-at (d s) (small s) (p .0) (p .1)) cc
+    let s = c .before .before .before in
+    rw (arrives s ∙ repeated-at (d s) (small s) (sym (bits s) ∙ c .before .before .if1 .taken)) cc
+
+sub-wrapping-add-u64 : tie.Need-sub-wrapping-add-u64
+sub-wrapping-add-u64 c = let s = c .before .before .before in above (d s) (small s) (test s true (c .before .if2 .taken)) .0
 
 returns-2 : tie.Need-returns-2
 unfolding counted
 returns-2 c =
-    let s = c .before .before .before .before in
-    rw (arrives s ∙ repeated-at (d s) (small s) (sym (bits s) ∙ c .before .before .if2 .taken)) cc
+    let s = c .before .before .before .before .before in
+    let p = above (d s) (small s) (test s true (c .before .before .before .if2 .taken)) in
+    rw (arrives s ∙ new-at (d s) (small s) (p .0) (p .1)) cc
 
 returns-3 : tie.Need-returns-3
 unfolding counted
 returns-3 c =
     let s = c .before .before .before .before in
-    let other : d s ≡ 0 → ⊥ = λ e. c .before .before .if2 .left (bits s ∙ e) in
-    let p = not-above (d s) (small s) (test s false (c .before .before .before .if1 .left)) other in
+    let other : d s ≡ 0 → ⊥ = λ e. c .before .before .before .if1 .left (bits s ∙ e) in
+    let p = not-above (d s) (small s) (test s false (c .before .before .if2 .left)) other in
     rw (arrives s ∙ late-at (d s) (small s) p) cc
 
 pub counted-spec : {M : Type 1} → statement M
@@ -61,11 +61,11 @@ counted-spec =
     (λ c κs. search needs)
     (λ c κs. search needs)
     (λ c κs. search needs)
-    sub-wrapping-add-u64
-    (λ c. search needs)
-    (λ c κs. search needs)
     (λ c. search needs)
     returns
+    (λ c κs. search needs)
+    sub-wrapping-add-u64
+    (λ c. search needs)
     (λ c κs. search needs)
     (λ c. search needs)
     returns-2
