@@ -207,8 +207,8 @@ static inline const char *kawsarpa_answer_name(unsigned int number)
  * nothing.
  *
  * Beside what the calls are owed, the caller owes that rows are aligned as the struct is, and that nobody else reads or changes them
- * during an offer: threads have rows of their own, or a lock. Any octets may stand in rows; the counts of rows that were not all free
- * at the start wrap at 2^32, and lost at 2^64.
+ * during an offer: threads have rows of their own, or a lock. Any octets may stand in rows; in rows that were not all free at the
+ * start new, repeated and late wrap at 2^32, and lost at 2^64.
  *
  * To begin, and to reset, zero the rows: memset the array, or the one row, between two offers. A row that has seen 4,294,967,295
  * counts no further: at a million packets a second that is after 71 minutes, so read and reset within that time.
