@@ -164,9 +164,9 @@ enum {
     KAWSARPA_ANSWER_TOO_LONG = 15,
     /* the output is shorter than the result */
     KAWSARPA_ANSWER_NO_ROOM = 16,
-    /* an offer alone: no row is free for a new TEID */
+    /* offers only: no row is free for a new TEID */
     KAWSARPA_ANSWER_NO_ROW = 25,
-    /* an offer alone: the row has seen 4,294,967,295 */
+    /* offers only: the row has seen 4,294,967,295 */
     KAWSARPA_ANSWER_ROW_FULL = 26
 };
 
@@ -199,16 +199,18 @@ static inline const char *kawsarpa_answer_name(unsigned int number)
  *     if (kawsarpa_sequence_found(sequence))
  *         kawsarpa_loss_offer(rows, KAWSARPA_LOSS_ROWS_MAX, kawsarpa_sequence_teid(sequence), kawsarpa_sequence_number(sequence));
  *
- * Offer the numbers in the order in which the packets arrived. A station numbers each TEID by itself and in each direction, so one
- * array of rows is for one direction or one port; two directions in one array would be counted as one stream.
+ * Offer the numbers in the order in which the packets arrived. A row is for one TEID, whatever the addresses are. Receivers choose
+ * TEIDs, so the same one may be used in the other direction or at another port: keep one array of rows for each direction or port,
+ * or such streams are counted as one.
  *
- * The lowest row of the TEID serves, else the lowest free one. Rows past KAWSARPA_LOSS_ROWS_MAX are never read or changed. An offer
- * changes one row at most and answers 0 in the packed form of the calls; KAWSARPA_ANSWER_NO_ROW and KAWSARPA_ANSWER_ROW_FULL change
- * nothing.
+ * The lowest row of the TEID serves, else the lowest free one. Rows past KAWSARPA_LOSS_ROWS_MAX are never read or changed. The count
+ * is in rows; TEID, number and the fields of a row are plain numbers. An offer answers in the packed form of the calls, with nothing
+ * but a number: 0 where it was counted, in one row; KAWSARPA_ANSWER_NO_ROW or KAWSARPA_ANSWER_ROW_FULL where nothing was changed.
+ * To read the report, go through the rows in which seen is not 0: lost / (new + lost) is the part that was lost.
  *
  * Beside what the calls are owed, the caller owes that rows are aligned as the struct is, and that nobody else reads or changes them
- * during an offer: threads have rows of their own, or a lock. Any octets may stand in rows; the counts of rows that were not all free
- * at the start wrap at 2^32, and lost at 2^64.
+ * during an offer: threads have rows of their own, or a lock. Any octets may stand in rows; in rows that were not all free at the
+ * start new, repeated and late wrap at 2^32, and lost at 2^64.
  *
  * To begin, and to reset, zero the rows: memset the array, or the one row, between two offers. A row that has seen 4,294,967,295
  * counts no further: at a million packets a second that is after 71 minutes, so read and reset within that time.

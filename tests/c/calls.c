@@ -197,20 +197,20 @@ static void check_header(const struct table *table)
               kawsarpa_answer_length(answer) == 65575,
           "readers of an answer", "each reads its own bits");
 
-    for (i = 0; i <= KAWSARPA_ANSWER_NO_ROOM; i++) {
-        if (strcmp(kawsarpa_answer_name(i), "unknown") == 0)
+    for (i = 0; i <= 256; i++) {
+        const int known = i <= KAWSARPA_ANSWER_NO_ROOM || i == KAWSARPA_ANSWER_NO_ROW || i == KAWSARPA_ANSWER_ROW_FULL;
+        if ((strcmp(kawsarpa_answer_name(i), "unknown") != 0) != known)
             named = 0;
-        for (j = 0; j < i; j++)
+        for (j = 0; known && j < i; j++)
             if (strcmp(kawsarpa_answer_name(i), kawsarpa_answer_name(j)) == 0)
                 named = 0;
     }
-    check(named, "kawsarpa_answer_name", "0 to 16 have names of their own");
+    check(named, "kawsarpa_answer_name", "0 to 16, 25 and 26 have names of their own, and the others up to 256 have none");
     check(strcmp(kawsarpa_answer_name(KAWSARPA_ANSWER_SENT), "sent") == 0 &&
               strcmp(kawsarpa_answer_name(KAWSARPA_ANSWER_BAD_UDP), "bad UDP") == 0 &&
-              strcmp(kawsarpa_answer_name(KAWSARPA_ANSWER_NO_ROOM), "no room") == 0,
-          "kawsarpa_answer_name", "0, 9 and 16 have the right ones");
-    check(strcmp(kawsarpa_answer_name(17), "unknown") == 0 && strcmp(kawsarpa_answer_name(256), "unknown") == 0,
-          "kawsarpa_answer_name", "17 and 256 are unknown");
+              strcmp(kawsarpa_answer_name(KAWSARPA_ANSWER_NO_ROOM), "no room") == 0 &&
+              strcmp(kawsarpa_answer_name(25), "no row free") == 0 && strcmp(kawsarpa_answer_name(26), "row full") == 0,
+          "kawsarpa_answer_name", "0, 9, 16, 25 and 26 have the right ones");
 }
 
 static void check_trip_ipv6(const struct table *table)

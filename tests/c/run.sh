@@ -1,6 +1,6 @@
 #!/usr/bin/env bash
-# run.sh LIB: kawsarpa.h by itself, the symbols of the archive, and calls.c and faults.c linked with it as C99, as C++17 and beside the
-# sanitizers.
+# run.sh LIB: kawsarpa.h by itself, the symbols of the archive, and calls.c, faults.c and losses.c linked with it as C99, as C++17 and
+# beside the sanitizers.
 set -eu
 
 if [ $# -ne 1 ]; then
@@ -9,6 +9,7 @@ if [ $# -ne 1 ]; then
 fi
 lib=$1
 here=$(cd "$(dirname "$0")" && pwd)
+include=$(cd "$here/../../include" && pwd)
 work=$(mktemp -d)
 trap 'rm -rf "$work"' EXIT
 
@@ -21,8 +22,8 @@ fail() {
 linked() { # WHAT COMPILER...
     local what=$1 program
     shift
-    for program in calls faults; do
-        "$@" -O2 -g -Werror -Wall -Wextra -Wpedantic -Wconversion -I "$here/../../include" -o "$work/$program" "$here/$program.c" \
+    for program in calls faults losses; do
+        "$@" -O2 -g -Werror -Wall -Wextra -Wpedantic -Wconversion -I "$include" -I "$work" -o "$work/$program" "$here/$program.c" \
             -x none "$lib" || fail "$program.c was not built: $what"
         if ! "$work/$program" >"$work/output" 2>&1; then
             cat "$work/output" >&2
@@ -35,6 +36,8 @@ linked() { # WHAT COMPILER...
 [ -r "$lib" ] || fail "no such library: $lib"
 "$here/header.sh" || fail "kawsarpa.h failed"
 "$here/symbols.sh" "$lib" || fail "the symbols of $lib failed"
+# the example that kawsarpa.h gives in its part on lost sequence numbers; losses.c includes it
+sed -n '/^ \* LOST SEQUENCE NUMBERS$/,/^ \*\/$/s/^ \*     //p' "$include/kawsarpa.h" >"$work/example.h"
 linked "C99" gcc -std=c99
 linked "C++17" g++ -x c++ -std=c++17
 linked "C99 with sanitizers" gcc -std=c99 -fsanitize=address,undefined -fno-sanitize-recover=all

@@ -22,24 +22,32 @@ FIELDS = [
     "ip.ttl", "ip.proto", "ip.checksum", "ip.checksum.status", "ip.src", "ip.dst",
     "udp.srcport", "udp.dstport", "udp.length", "udp.checksum", "udp.checksum.status", "udp.payload",
     "gtp.flags", "gtp.flags.version", "gtp.flags.payload", "gtp.flags.reserved", "gtp.flags.e", "gtp.flags.s", "gtp.flags.pn",
-    "gtp.message", "gtp.length", "gtp.teid", "gtp.ext_hdr.next", "gtp.ext_hdr.length", "gtp.ext_hdr.pdu_ses_con.pdu_type",
+    "gtp.message", "gtp.length", "gtp.teid", "gtp.seq_number", "gtp.ext_hdr.next", "gtp.ext_hdr.length", "gtp.ext_hdr.pdu_ses_con.pdu_type",
     "gtp.ext_hdr.pdu_ses_con.qos_flow_id", "gtp.ext_hdr.pdu_ses_cont.ppp", "gtp.ext_hdr.pdu_ses_cont.rqi",
     "eth.dst", "eth.src", "eth.type", "data.data",
 ]
 
 
-def frame(packet: bytes, pairs: expect.Pairs) -> bytes:
+def frame(packet: bytes, layer: str) -> bytes:
     """A packet behind the link's header, which names the version that is expected."""
-    return wire.ethernet(LINK_TO, LINK_FROM, ETHERTYPES[pairs[0][1]], packet)
+    return wire.ethernet(LINK_TO, LINK_FROM, ETHERTYPES[layer], packet)
 
 
 def decode(frames: list[bytes], work: Path) -> list[dict[str, str]]:
-    """For each frame the text of each field; a field that occurs more than once is a list with commas."""
+    """For each frame the text of each field."""
     capture = work / "packets.pcap"
     with capture.open("wb") as file:
         file.write(struct.pack("<IHHiIII", 0xA1B2C3D4, 2, 4, 0, 0, 1 << 18, LINK_TYPE_ETHERNET))
         for octets in frames:
             file.write(struct.pack("<IIII", 0, 0, len(octets), len(octets)) + octets)
+    shown = read(capture)
+    if len(shown) != len(frames):
+        raise RuntimeError(f"tshark showed {len(shown)} packets of {len(frames)}")
+    return shown
+
+
+def read(capture: Path) -> list[dict[str, str]]:
+    """The same of a capture. A field that occurs more than once is a list with commas."""
     command = ["tshark", "-n", "-r", str(capture), "-o", "ip.check_checksum:TRUE", "-o", "udp.check_checksum:TRUE"]
     command += ["-d", f"udp.port=={INNER_PORTS[0]},data"]  # else a guess at the payload may name another protocol
     command += ["-T", "fields", "-E", "separator=/t", "-E", "occurrence=a", "-E", "aggregator=,"]
@@ -48,10 +56,7 @@ def decode(frames: list[bytes], work: Path) -> list[dict[str, str]]:
     done = subprocess.run(command, stdout=subprocess.PIPE, stderr=subprocess.PIPE, text=True)
     if done.returncode != 0:
         raise RuntimeError(f"tshark ended with {done.returncode}: {done.stderr}")
-    lines = done.stdout.split("\n")[:-1]
-    if len(lines) != len(frames):
-        raise RuntimeError(f"tshark showed {len(lines)} packets of {len(frames)}")
-    return [dict(zip(FIELDS, line.split("\t"), strict=True)) for line in lines]
+    return [dict(zip(FIELDS, line.split("\t"), strict=True)) for line in done.stdout.split("\n")[:-1]]
 
 
 def length(pairs: expect.Pairs) -> int:

@@ -21,7 +21,7 @@ class Sent:
     how: str
 
     def frame(self) -> bytes:
-        return decode.frame(self.packet, self.pairs)
+        return decode.frame(self.packet, self.pairs[0][1])
 
 
 def compare(sent: Sent, shown: dict[str, str]) -> list[str]:
@@ -45,6 +45,7 @@ class Count:
     fields: int = 0
     waypoints: int = 0
     refusals: int = 0
+    readings: int = 0
     differences: int = 0
 
 

@@ -1,4 +1,4 @@
-"""peers.py CALL WORK PREFIX: the three parts, with the program CALL, files in WORK, and namespaces whose names begin with PREFIX."""
+"""peers.py CALL WORK PREFIX: the four parts, with the program CALL, files in WORK, and namespaces whose names begin with PREFIX."""
 
 import sys
 import time
@@ -8,7 +8,9 @@ import decoded
 import headend
 import network
 import refusals
+import sequence
 import trips
+import yard
 from judge import Count, judge
 from library import Library
 
@@ -33,8 +35,10 @@ def main(program: str, work: Path, prefix: str) -> int:
     judge(sent, work, count)
     say(words)
     say(refusals.run(library, chain, count))
-    print(f"peers: {count.packets} packets decoded, {count.fields} fields compared, {count.waypoints} waypoints and "
-          f"{count.refusals} refusals compared, {count.differences} differences")
+    say(sequence.run(library, work, count))
+    say(yard.run(work, count))
+    print(f"peers: {count.packets} packets decoded, {count.fields} fields compared, {count.waypoints} waypoints, {count.refusals} refusals "
+          f"and {count.readings} readings compared, {count.differences} differences")
     return 1 if count.differences else 0
 
 

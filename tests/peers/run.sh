@@ -1,5 +1,6 @@
 #!/usr/bin/env bash
-# run.sh LIB: tshark and the kernel's SRv6 judge what the library writes. Never skips: where it cannot run, it fails.
+# run.sh LIB: tshark and the kernel's SRv6 judge what the library writes, and tshark what its readers find. Never skips: where it cannot
+# run, it fails.
 set -eu
 
 LIMIT=300 # seconds

@@ -3,8 +3,10 @@
 import struct
 
 NEXT_IPV4, NEXT_UDP, NEXT_IPV6, NEXT_ROUTING, NEXT_ETHERNET = 4, 17, 41, 43, 143
+NEXT_HOP_BY_HOP, NEXT_FRAGMENT, NEXT_DESTINATION_OPTIONS = 0, 44, 60
 GTPU_PORT = 2152
-G_PDU = 255
+E, S = 4, 2  # flags of a GTP-U header
+ECHO_REQUEST, ERROR_INDICATION, END_MARKER, G_PDU = 1, 26, 254, 255
 PDU_SESSION_CONTAINER = 0x85
 
 
@@ -22,7 +24,7 @@ def ipv6(tclass: int, flow: int, next_header: int, hop_limit: int, source: bytes
 
 
 def ipv4_checksum(header: bytes) -> int:
-    return ones_sum(header[:10] + header[12:20]) ^ 0xFFFF
+    return ones_sum(header[:10] + header[12:4 * (header[0] & 0x0F)]) ^ 0xFFFF
 
 
 def ipv4(tos: int, identification: int, dont_fragment: bool, ttl: int, protocol: int, source: bytes, destination: bytes,
@@ -48,11 +50,20 @@ def srh(next_header: int, segments: list[bytes], left: int, last: int, flags: in
     return struct.pack("!BBBBBBH", next_header, len(body) // 8, 4, left, last, flags, tag) + body
 
 
+def message(kind: int, teid: int, flags: int, rest: bytes) -> bytes:
+    """A GTP-U message from what follows its first eight octets."""
+    return struct.pack("!BBHI", 0x30 | flags, kind, len(rest), teid) + rest
+
+
+def extension(contents: bytes, following: int) -> bytes:
+    """Contents of 2, 6, 10 ... octets, and the type of the extension behind."""
+    return bytes([(len(contents) + 2) // 4]) + contents + bytes([following])
+
+
 def gtpu(teid: int, container: bytes, inner: bytes, spare_s_pn: int = 0, sequence: int = 0, n_pdu: int = 0) -> bytes:
-    """A G-PDU with one extension, the PDU Session container, given by its contents (2, 6, 10 ... octets)."""
-    extension = bytes([(len(container) + 2) // 4]) + container + b"\0"
-    rest = struct.pack("!HBB", sequence, n_pdu, PDU_SESSION_CONTAINER) + extension + inner
-    return struct.pack("!BBHI", 0x34 | spare_s_pn, G_PDU, len(rest), teid) + rest
+    """A G-PDU with one extension, the PDU Session container, given by its contents."""
+    rest = struct.pack("!HBB", sequence, n_pdu, PDU_SESSION_CONTAINER) + extension(container, 0) + inner
+    return message(G_PDU, teid, E | spare_s_pn, rest)
 
 
 def ethernet(destination: bytes, source: bytes, ethertype: int, payload: bytes) -> bytes:

@@ -1,5 +1,6 @@
-// Reads calls from standard input, makes each, and prints its name and what came of it: the answer's fields and the octets sent.
-// The second program writes the input and what is to be printed (tests/second/src/program.rs, which says how a call stands there).
+// Reads calls from standard input, makes each, and prints its name and what came of it: the answer's fields and the octets sent, or TEID
+// and sequence number of the packet. The second program writes the input and what is to be printed (tests/second/src/program.rs, which
+// says how a call stands there).
 use gateway::answer::Answer;
 use libc::STDIN_FILENO;
 use libc::STDOUT_FILENO;
@@ -8,13 +9,20 @@ ghost use Rattle.io.specs.Counts.{Counts};
 // A table length that says: the table of the call before.
 const SAME_TABLE: usize = 0xffff;
 
+// Which function is called. Every other number is the IPv6 call.
+const TRANSLATE_IPV4: u8 = 4;
+
+const SEQUENCE_IPV4: u8 = 0x84;
+
+const SEQUENCE_IPV6: u8 = 0x86;
+
 // What next answers where no further call stands in the input.
 const NONE: usize = 0x10000;
 
 // The counts before a call's octets.
 struct Lengths {
     name: usize,
-    version: u8,
+    function: u8,
     table: usize,
     packet: usize,
     room: usize,
@@ -30,7 +38,7 @@ fn number(a: u8, b: u8, c: u8, d: u8) -> usize {
 fn lengths_of(h: [u8; 12]) -> Lengths {
     Lengths {
         name: octets::wide(h[0]),
-        version: h[1],
+        function: h[1],
         table: number(0, 0, h[2], h[3]),
         packet: number(h[4], h[5], h[6], h[7]),
         room: number(h[8], h[9], h[10], h[11]),
@@ -61,9 +69,13 @@ fn print_octets(out: &[u8], n: usize) {
     }
 }
 
-fn print_answer(name: &[u8], a: Answer, out: &[u8]) {
+fn print_name(name: &[u8]) {
     io::write_all(STDOUT_FILENO, name);
     io::write_all(STDOUT_FILENO, &[b':', b' ']);
+}
+
+fn print_answer(name: &[u8], a: Answer, out: &[u8]) {
+    print_name(name);
     print_field(a.number as u64);
     print_field(a.icmpType as u64);
     print_field(a.icmpCode as u64);
@@ -76,8 +88,29 @@ fn print_answer(name: &[u8], a: Answer, out: &[u8]) {
     io::write_all(STDOUT_FILENO, &[b'\n']);
 }
 
-fn call(version: u8, name: &[u8], table: &[u8], packet: &[u8], out: &mut [u8]) {
-    if version == 4 {
+// TEID and sequence number that a reader found; - where there are none.
+fn print_sequence(name: &[u8], found: u64) {
+    print_name(name);
+    if found == 0 {
+        io::write_all(STDOUT_FILENO, &[b'-', b'\n']);
+        return;
+    }
+    io::print_hex(STDOUT_FILENO, found / 0x10000 % 0x100000000, 8);
+    io::write_all(STDOUT_FILENO, &[b' ']);
+    io::print_decimal(STDOUT_FILENO, found % 0x10000);
+    io::write_all(STDOUT_FILENO, &[b'\n']);
+}
+
+fn call(function: u8, name: &[u8], table: &[u8], packet: &[u8], out: &mut [u8]) {
+    if function == SEQUENCE_IPV4 {
+        print_sequence(name, sequence::sequence_ipv4(packet));
+        return;
+    }
+    if function == SEQUENCE_IPV6 {
+        print_sequence(name, sequence::sequence_ipv6(packet));
+        return;
+    }
+    if function == TRANSLATE_IPV4 {
         let a = gateway::translate_ipv4(packet, table, out);
         print_answer(name, a, out);
         return;
@@ -101,7 +134,7 @@ fn filled_table(same: bool, table: &mut [u8]) -> bool {
 
 // Reads the octets of one call and makes it; false where the input ends before.
 fn taken(
-    version: u8,
+    function: u8,
     same_table: bool,
     name: &mut [u8],
     table: &mut [u8],
@@ -117,7 +150,7 @@ fn taken(
     if !filled(packet) {
         return false;
     }
-    call(version, name, table, packet, out);
+    call(function, name, table, packet, out);
     true
 }
 
@@ -141,7 +174,7 @@ fn next(
     let k = within(c.packet, packet);
     let l = within(c.room, out);
     if !taken(
-        c.version,
+        c.function,
         same_table,
         &mut name[..i],
         &mut table[..j],

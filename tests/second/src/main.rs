@@ -33,12 +33,12 @@ usage:
   second check
       read lines of any of these forms from standard input and run them here
   second worked
-      run the worked packets of document 01
+      run the worked packets of document 01 and of order 13
   second program-input --seed N --per-kind K [--max-worked L]
   second program-output --seed N --per-kind K [--max-worked L]
       what the library's program `worked` reads, and what it should print: the
-      worked packets that are calls (of at most L octets, if given), then K cases
-      for each kind; case D N:I:P is that of
+      worked packets that are calls (of at most L octets, if given), those for the
+      readers, then K cases for each kind; case D N:I:P is that of
       second show --seed N --index I --packet P
   second trips --seed N --cases M
       run M whole trips, each followed by two second trips

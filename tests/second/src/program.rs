@@ -1,9 +1,10 @@
 //! What the program `worked` of the library reads, and the lines that it should
-//! print: the calls of the worked packets, then cases of a seed.
+//! print: the calls of the worked packets, their readings, then cases of a seed.
 
 use crate::answer::Answer;
 use crate::generate::{self, Call, Case};
-use crate::{vectors, worked};
+use crate::sequence::cases::Reading;
+use crate::{sequence, vectors, worked};
 
 /// Standard input and output of the program.
 pub struct Run {
@@ -23,6 +24,16 @@ const MAX_INDEX: u64 = 100_000;
 /// A table length that says: the table of the call before.
 const SAME_TABLE: u16 = 0xffff;
 
+/// Added to the IP version, it says: the reader.
+const READER: u8 = 0x80;
+
+fn version(call: Call) -> u8 {
+    match call {
+        Call::Ipv6 => 6,
+        Call::Ipv4 => 4,
+    }
+}
+
 impl Run {
     fn new() -> Self {
         Run {
@@ -32,25 +43,27 @@ impl Run {
         }
     }
 
-    /// A call in the input: name length (1 octet), IP version (1), table length
-    /// (2), packet length (4), room (4), then name, table and packet; table
-    /// length FFFF is the table of the call before. In the output: the name, the
-    /// answer's fields, the octets sent.
+    /// The lengths and the name before a call's octets in the input: name length (1
+    /// octet), function (1), table length (2), packet length (4), room (4), name.
+    /// The function is the IP version, and [`READER`] more for the reader.
+    fn begin(&mut self, name: &str, function: u8, table: u16, packet: usize, room: usize) {
+        self.input.extend([name.len() as u8, function]);
+        self.input.extend(table.to_be_bytes());
+        self.input.extend((packet as u32).to_be_bytes());
+        self.input.extend((room as u32).to_be_bytes());
+        self.input.extend(name.as_bytes());
+    }
+
+    /// A call in the input: its beginning, then table and packet; table length FFFF
+    /// is the table of the call before. In the output: the name, the answer's
+    /// fields, the octets sent.
     fn add(&mut self, name: &str, call: Call, packet: &[u8], table: &[u8], room: usize) {
         let table_length = if self.last_table == table {
             SAME_TABLE
         } else {
             table.len() as u16
         };
-        let version = match call {
-            Call::Ipv6 => 6,
-            Call::Ipv4 => 4,
-        };
-        self.input.extend([name.len() as u8, version]);
-        self.input.extend(table_length.to_be_bytes());
-        self.input.extend((packet.len() as u32).to_be_bytes());
-        self.input.extend((room as u32).to_be_bytes());
-        self.input.extend(name.as_bytes());
+        self.begin(name, version(call), table_length, packet.len(), room);
         if table_length != SAME_TABLE {
             self.input.extend(table);
             self.last_table = table.to_vec();
@@ -72,10 +85,25 @@ impl Run {
         self.output.push_str(&vectors::hex(&out[..length as usize]));
         self.output.push('\n');
     }
+
+    /// A reading in the input: its beginning, with room 0 and the table of the call
+    /// before, then the packet. In the output: the name, TEID and sequence number,
+    /// or `-` for none.
+    fn add_reading(&mut self, name: &str, reading: &Reading) {
+        let function = READER | version(reading.call);
+        self.begin(name, function, SAME_TABLE, reading.packet.len(), 0);
+        self.input.extend(&reading.packet);
+
+        let found = match reading.sequence {
+            0 => "-".to_string(),
+            sequence => format!("{:08x} {}", (sequence >> 16) as u32, sequence as u16),
+        };
+        self.output.push_str(&format!("{name}: {found}\n"));
+    }
 }
 
-/// The worked packets that are calls, but longer ones than `max_worked`, then
-/// `per_kind` cases of each kind.
+/// The worked packets that are calls, but longer ones than `max_worked`, the
+/// worked packets for the readers, then `per_kind` cases of each kind.
 pub fn run(seed: u64, per_kind: u64, max_worked: usize) -> Result<Run, String> {
     let mut run = Run::new();
     for worked in worked::calls() {
@@ -89,6 +117,9 @@ pub fn run(seed: u64, per_kind: u64, max_worked: usize) -> Result<Run, String> {
             &worked.table,
             worked.room,
         );
+    }
+    for worked in sequence::worked::readings() {
+        run.add_reading(worked.words, &worked.reading);
     }
     for ((index, packet), case) in vectors::select_from(cases(seed), per_kind, MAX_PACKET)? {
         let name = format!("{} {seed}:{index}:{packet}", case.kind.name());

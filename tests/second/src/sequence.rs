@@ -5,6 +5,7 @@
 
 pub mod cases;
 pub mod coverage;
+pub mod worked;
 
 use crate::answer::Refusal;
 use crate::generate::Call;

@@ -1,9 +1,11 @@
-//! Document 01, "Worked packets": each that can be said as a function's result.
+//! Document 01, "Worked packets": each that can be said as a function's result; and those of order
+//! 13, for the readers.
 
 use crate::answer::Answer;
 use crate::args::ArgsMobSession;
 use crate::generate::Call;
 use crate::gtpu;
+use crate::sequence::worked::readings;
 use crate::table::{
     Behaviour, Direction, Entry, Ipv4Places, Ipv4Prefix, Ipv6Prefix, Policy, Rule, Session,
     SessionType, Table,
@@ -440,6 +442,10 @@ pub fn lines() -> Vec<Line> {
         "waypoint, SL 1, hop limit 2 leaves as 1",
         equal(sent.get(7), Some(&1)),
     );
+
+    for worked in readings() {
+        line(worked.words, worked.reading.check());
+    }
     lines
 }
 
