@@ -1,6 +1,6 @@
 -- The signed reading of a difference mod 65,536, as 16 bits in two's complement hold it.
 use mathlib.Core.Path.{_≡_, refl, sym, ap}
-use mathlib.Core.Bool.{true, false, cond, true≢false}
+use mathlib.Core.Bool.{true, false, true≢false}
 use mathlib.Core.Logic.{⊎-elim}
 use Prim.Native.Nat.{ℕ, zero, suc, _+_, _-_, _%_, _≤_, _<_}
 use native.Mathlib.Omega.{arith}
@@ -9,7 +9,7 @@ use lib.Signed.{ltZ}
 use borrow.Author.Tests.{lt-ltb, le-ltb, ltb-true, ltb-false}
 use mir.Syntax.{w16}
 use mir.Val.{toZ, ofZ}
-use Rattle.loss.specs.Loss.{signedOf, distance, Arrival, New, Repeated, Late, arrivalOf}
+use Rattle.loss.specs.Loss.{signedOf, New, Repeated, Late, arrivalOf}
 use Rattle.loss.proofs.Choosing.{below-or}
 
 pub low : (d : ℕ) → d < 32768 → toZ w16 d ≡ pos d

@@ -1,17 +1,14 @@
 -- What the counts of a row say, over every history from free rows.
 use mathlib.Core.Path.{_≡_, refl, sym, _∙_, ap, subst}
-use mathlib.Core.Bool.{Bool, true, false, cond}
 use mathlib.Core.Logic.{_⊎_, inl, inr, ⊎-elim}
-use mathlib.Core.List.{List, [], _∷_, _++_}
-use Prim.Native.Nat.{ℕ, zero, suc, _+_, _-_, _*_, _%_, _^_, _≤_, _<_}
+use mathlib.Core.List.{List, [], _∷_}
+use Prim.Native.Nat.{ℕ, suc, _+_, _-_, _*_, _%_, _^_, _≤_, _<_}
 use native.Mathlib.Nat.{mod-eq-of-lt, eq-or-lt-of-le}
 use native.Mathlib.Omega.{arith}
-use lib.Dec.{eqb}
-use lib.ListN.{length}
-use borrow.Author.Tests.{eq-eqb, ne-eqb, eqb-true, eqb-false}
+use borrow.Author.Tests.{eq-eqb, ne-eqb}
 use Rattle.rules.specs.declared.Found.{Found}
 use Rattle.rules.specs.declared.Found.the-variants.{At, Nothing}
-use Rattle.loss.specs.Loss.{Arrival, arrivalOf, distance, counted, started, rowAt, free, full, serving, offered, offer}
+use Rattle.loss.specs.Loss.{arrivalOf, distance, counted, started, rowAt, serving, offered, offer}
 use Rattle.loss.specs.Told.{Told}
 use Rattle.loss.specs.History.{Offer, history, Numbers, AllFree, Counts}
 use Rattle.loss.specs.declared.Row.{Row}

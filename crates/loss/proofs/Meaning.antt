@@ -1,22 +1,18 @@
 -- What the counts of a report mean: numbers in order lose nothing, a jump over k numbers loses k, a new number at once again is one repeat.
 use mathlib.Core.Path.{_≡_, refl, sym, _∙_, ap, subst}
-use mathlib.Core.Bool.{Bool, true, false}
+use mathlib.Core.Bool.{true}
 use mathlib.Core.Logic.{_⊎_, inl, inr, ⊎-elim}
 use mathlib.Core.List.{List, [], _∷_}
 use Prim.Native.Nat.{ℕ, zero, suc, _+_, _-_, _%_, _^_, _≤_, _<_}
 use native.Mathlib.Nat.{mod-eq-of-lt, eq-or-lt-of-le}
 use native.Mathlib.Omega.{arith}
-use lib.ListN.{length}
 use borrow.Author.Tests.{eq-eqb, eqb-false}
-use Rattle.rules.specs.declared.Found.{Found}
-use Rattle.rules.specs.declared.Found.the-variants.{At, Nothing}
-use Rattle.loss.specs.Loss.{Arrival, New, Repeated, Late, arrivalOf, distance, counted, started}
-use Rattle.loss.specs.Loss.{rowAt, noRow, free, ofTeid, serving, offered, offer}
+use Rattle.loss.specs.Loss.{New, counted, started}
+use Rattle.loss.specs.Loss.{rowAt, noRow, ofTeid, offered, offer}
 use Rattle.loss.specs.History.{Offer, history, Numbers, AllFree, ownOffers, inOrder}
 use Rattle.loss.specs.declared.Row.{Row}
-use Rattle.loss.proofs.Choosing.{below-or}
 use Rattle.loss.proofs.Telling.{new-is, repeated-is}
-use Rattle.loss.proofs.Offers.{Fit, served-row}
+use Rattle.loss.proofs.Offers.{served-row}
 use Rattle.loss.proofs.Histories.{Kept, offered-free, offered-full, offered-counted, fine-history, free-fine}
 use Rattle.loss.proofs.Histories.{new-fits, lost-fits}
 use Rattle.loss.proofs.Alone.{own-parts, own-after, lone-offer, own-offers-alone, own-serves-next}

@@ -7,7 +7,7 @@ use mathlib.Core.List.{List, [], _∷_, _++_}
 use Prim.Native.Nat.{ℕ, zero, suc, _+_, _≤_, _<_}
 use native.Mathlib.Omega.{arith}
 use lib.Dec.{ltb, eqb}
-use lib.ListN.{length, getD, set, length-set, length-append, List·getD-append}
+use lib.ListN.{length, set, length-set, length-append, List·getD-append}
 use lib.Seq.{getD-set-same, getD-set-other, set-getD}
 use borrow.Author.Tests.{ltb-false, eqb-true}
 use Rattle.rules.specs.Answer.{packedFields}
@@ -17,7 +17,6 @@ use Rattle.loss.specs.Loss.{rowAt, noRow, free, full, ofTeid, usedOf, or
 use Rattle.loss.specs.Loss.{started, counted, arrivalOf, distance, offered, offerAt, offer}
 use Rattle.loss.specs.History.{Offer, history}
 use Rattle.loss.specs.declared.Row.{Row}
-use Rattle.loss.proofs.Choosing.{same-or}
 use Rattle.loss.proofs.Lowest.{lowest-at}
 use Rattle.loss.proofs.Searching.{used-le}
 

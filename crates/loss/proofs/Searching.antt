@@ -1,5 +1,5 @@
 -- One pass over the rows for each condition: what it finds is the row that serves, and what the offer then is.
-use mathlib.Core.Path.{_≡_, refl, sym, _∙_, ap, subst}
+use mathlib.Core.Path.{_≡_, refl, sym, ap, subst}
 use mathlib.Core.Bool.{Bool, true, false, not, cond, _&&_, true≢false}
 use mathlib.Core.Logic.{⊎-elim}
 use mathlib.Core.List.{List}
@@ -10,9 +10,8 @@ use lib.Dec.{ltb, eqb}
 use lib.ListN.{length, set}
 use lib.Seq.{set-getD}
 use borrow.Author.Tests.{ltb-true, ltb-false, eq-eqb, ne-eqb}
-use Rattle.rules.specs.declared.Found.{Found}
 use Rattle.rules.specs.declared.Found.the-variants.{At, Nothing}
-use Rattle.loss.specs.Loss.{rowAt, noRow, free, ofTeid, usedOf, orElse, lowest, serving}
+use Rattle.loss.specs.Loss.{rowAt, noRow, free, ofTeid, usedOf, serving}
 use Rattle.loss.specs.Loss.{started, counted, arrivalOf, distance, offered, offerAt, offer}
 use Rattle.loss.specs.declared.Row.{Row}
 use Rattle.loss.proofs.Lowest.{is-lowest}

@@ -1,19 +1,19 @@
 -- The second saying of an offer (specs/Told.antt) is the definition: both ways, for every row whose number has 16 bits.
 use mathlib.Core.Path.{_≡_, refl, sym, _∙_, ap, subst}
 use mathlib.Core.Bool.{Bool, true, false, not, cond, _&&_, true≢false}
-use mathlib.Core.Logic.{_⊎_, inl, inr, ⊎-elim}
+use mathlib.Core.Logic.{_⊎_, ⊎-elim}
 use mathlib.Core.List.{List}
-use Prim.Native.Nat.{ℕ, _+_, _-_, _%_, _^_, _≤_, _<_}
+use Prim.Native.Nat.{ℕ, _+_, _-_, _%_, _≤_, _<_}
 use native.Mathlib.Nat.{eq-or-lt-of-le}
 use native.Mathlib.Omega.{arith}
 use lib.Dec.{ltb, eqb}
 use lib.ListN.{length, set}
-use borrow.Author.Tests.{lt-ltb, le-ltb, ltb-true, ltb-false, eq-eqb, ne-eqb, eqb-true, eqb-false}
+use borrow.Author.Tests.{ltb-true, ltb-false, eq-eqb, ne-eqb, eqb-true, eqb-false}
 use Rattle.rules.specs.declared.Found.{Found}
 use Rattle.rules.specs.declared.Found.the-variants.{At, Nothing}
 use Rattle.loss.specs.Loss.{signedOf, distance, Arrival, New, Repeated, Late, arrivalOf, counted, started}
 use Rattle.loss.specs.Loss.{rowAt, free, ofTeid, usedOf, lowest, offer}
-use Rattle.loss.specs.Told.{Holds, Used, LowestOwn, NoOwn, Fits, Told, Answers}
+use Rattle.loss.specs.Told.{Holds, LowestOwn, NoOwn, Fits, Told, Answers}
 use Rattle.loss.specs.declared.Row.{Row}
 use Rattle.loss.proofs.Choosing.{below-or, same-or}
 use Rattle.loss.proofs.Distances.{new-at, repeated-at, late-at}

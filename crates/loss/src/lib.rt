@@ -1,7 +1,6 @@
 // Lost sequence numbers (order 13): rows that the caller lends, one record for each TEID, and numbers offered in the order of arrival.
 ghost use mathlib.Core.Path.{_≡_};
-ghost use Prim.Native.Nat.{ℕ, _<_};
-ghost use lib.ListN.{length};
+ghost use Prim.Native.Nat.{_<_};
 ghost use Rattle.loss.specs.Loss.{signedOf, arrivalOf, distance, counted, started, free, ofTeid, usedOf, offer};
 
 // A row is free where `seen` is 0.

@@ -1,6 +1,6 @@
 -- `kawsarpa_loss_offer` meets its contract: a walk of its MIR by hand, because no reference to a slice of structs is covered. The rows go
 -- on to `loss::offer` at their own lifetime, share and ghost name, and what that ensures of them is what is asked here.
-use mathlib.Core.Path.{_≡_, refl, _∙_, ap}
+use mathlib.Core.Path.{_≡_, refl}
 use mathlib.Core.List.{[], _∷_, List}
 use Prim.Native.Nat.{ℕ, _<_, _^_}
 use lib.ListN.{length}

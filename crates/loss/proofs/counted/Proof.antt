@@ -1,13 +1,12 @@
 use mathlib.Core.Path.{_≡_, sym, _∙_, ap}
 use mathlib.Core.Bool.{Bool, true, false}
-use Prim.Native.Nat.{ℕ, _-_, _<_, _≤_}
-use native.Mathlib.Omega.{arith}
+use Prim.Native.Nat.{ℕ, _-_, _<_}
 use lib.IntN.{pos}
 use lib.Signed.{ltZ}
 use mir.Syntax.{w16}
 use mir.Val.{toZ, ofZ}
 use borrow.Author.Needs.{needs}
-use Rattle.loss.specs.Loss.{signedOf, distance, Arrival, New, Repeated, Late, arrivalOf, counted}
+use Rattle.loss.specs.Loss.{signedOf, distance, arrivalOf, counted}
 use Rattle.loss.proofs.Distances.{wrapped, bits-of, above, not-above, new-at, repeated-at, late-at}
 use Rattle.loss.proofs.counted.Statement.{statement}
 use Rattle.loss.proofs.counted.Tie as tie
