@@ -66,6 +66,12 @@ lowest-own : offer (row 7 0 0 0 ∷ row 7 50 3 18446744073709551615 ∷ row 7 60
 unfolding computing
 lowest-own = refl
 
+-- lost has more than 32 bits
+lost-past-32-bits : offer (row 7 50 3 4294967295 ∷ []) 7 53
+    ≡ (0, record { teid = 7; first = 1; highest = 53; seen = 4; new = 0; repeated = 4294967295; late = 4294967295; lost = 4294967297 } ∷ [])
+unfolding computing
+lost-past-32-bits = refl
+
 -- the whole record is written where a row is taken
 whole-record : offer (row 7 50 3 9 ∷ row 5 60 0 9 ∷ []) 8 65535
     ≡ (
