@@ -20,7 +20,7 @@ use Rattle.rules.specs.declared.Refusal.{Refusal}
 use Rattle.rules.specs.declared.Verdict.{Verdict}
 use Rattle.rules.specs.declared.Verdict.the-variants.{Pass, Refuse}
 use Rattle.rules.proofs.Windows.{window-drop}
-use Rattle.rules.proofs.Judging.{verdict-append, is-true, is-false}
+use Rattle.rules.proofs.Judging.{verdict-append, is-true, is-false, only-true, only-false}
 use Rattle.sequence.specs.Sequence.{rows9To11, gPduRows6, gPduRows4, passes, numbered, teid, found, foundIn}
 use Rattle.sequence.specs.Sequence.{sequenceUnless, sequence6, sequence4}
 use Rattle.sequence.specs.Parts.{rows8To11, sequenceIn}
@@ -71,7 +71,20 @@ not-taken r b p q = sym p ∙ not-true r q
 pub not-left : (r b : Bool) → r ≡ b → not r ≡ false → b ≡ true
 not-left r b p q = sym p ∙ not-false r q
 
-pub ruleset tested = (row-applies, row-passed, rows-apply, rows-passed, flag-clear, flag-set, is-true, is-false, not-taken, not-left)
+pub ruleset tested = (
+  row-applies,
+  row-passed,
+  rows-apply,
+  rows-passed,
+  flag-clear,
+  flag-set,
+  is-true,
+  is-false,
+  only-true,
+  only-false,
+  not-taken,
+  not-left,
+)
 
 -- WHAT IS READ OF A PACKET
 

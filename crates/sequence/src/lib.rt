@@ -4,9 +4,10 @@ ghost use mathlib.Core.Path.{_≡_};
 ghost use Prim.Native.Nat.{_+_, _*_};
 ghost use lib.ListN.{drop};
 ghost use Rattle.rules.specs.Gtpu as Gtpu;
-ghost use Rattle.rules.specs.Answer.{any, verdict};
+ghost use Rattle.rules.specs.Assigned.{gPdu};
+ghost use Rattle.rules.specs.Answer.{differs, verdict};
 ghost use Rattle.rules.specs.Datagram.{messageRows};
-ghost use Rattle.sequence.specs.Sequence.{notGPdu, passes, numbered, teid, found, sequenceUnless, sequence6, sequence4};
+ghost use Rattle.sequence.specs.Sequence.{passes, numbered, teid, found, sequenceUnless, sequence6, sequence4};
 ghost use Rattle.sequence.specs.Parts.{rows8To11, sequenceIn};
 
 const G_PDU: u8 = 255;
@@ -26,9 +27,9 @@ const FOUND: u64 = 0x1000000000000;
 
 // Row 11.
 fn not_gpdu(g: rules::Datagram) -> bool
-    ensures { λ r. ⌜ r ≡ any (notGPdu g) ⌝ }
+    ensures { λ r. ⌜ r ≡ differs (g .messageType) gPdu ⌝ }
 {
-    (g.messageType != G_PDU) | false
+    g.messageType != G_PDU
 }
 
 fn passes(v: rules::Verdict) -> bool
