@@ -7,17 +7,32 @@
  *     if (kawsarpa_answer_number(answer) == KAWSARPA_ANSWER_SENT)
  *         send_on(out, kawsarpa_answer_length(answer));
  *
- * kawsarpa_table_fault says of a table, before it is used, which condition it breaks, if any. kawsarpa_loss_offer counts the
- * sequence numbers that were lost on the way, for the stations that send them.
+ * kawsarpa_table_fault says of a table, before it is used, which condition it breaks, if any. kawsarpa_match_ipv6, _ipv4 and
+ * _waypoint say of the tables of both ends, and of those between, whether they fit. kawsarpa_loss_offer counts the sequence numbers
+ * that were lost on the way, for the stations that send them.
  *
- * The parts of this file: the calls, what they answer, lost sequence numbers, the faults of a table, the octets of a table. The
- * library is for x86-64.
+ * The parts of this file: the version, the calls, what they answer, lost sequence numbers, the faults of a table, tables that fit, the
+ * octets of a table. The library is for x86-64.
  */
 #ifndef KAWSARPA_H
 #define KAWSARPA_H
 
 #include <stddef.h>
 #include <stdint.h>
+
+/*
+ * THE VERSION
+ *
+ * Of this header, and of the library and the tool that were built with it. CHANGELOG.md says what each version brought.
+ */
+#define KAWSARPA_VERSION_MAJOR 0
+#define KAWSARPA_VERSION_MINOR 3
+#define KAWSARPA_VERSION_PATCH 0
+
+/* The same as a string: "1.2.3" for 1, 2 and 3. */
+#define KAWSARPA_VERSION KAWSARPA_VERSION_OF(KAWSARPA_VERSION_MAJOR, KAWSARPA_VERSION_MINOR, KAWSARPA_VERSION_PATCH)
+#define KAWSARPA_VERSION_OF(major, minor, patch) KAWSARPA_VERSION_TEXT(major, minor, patch)
+#define KAWSARPA_VERSION_TEXT(major, minor, patch) #major "." #minor "." #patch
 
 /*
  * THE CALLS
@@ -441,6 +456,171 @@ static inline const char *kawsarpa_fault_name(uint64_t fault)
     if (fault >> 32 != 0 || record < 1 || record > 4 || condition < 1 || condition > 14 || names[record - 1][condition - 1] == NULL)
         return "unknown";
     return names[record - 1][condition - 1];
+}
+
+/*
+ * TABLES THAT FIT
+ *
+ * Tables may each be sound and not belong together: with Args at octet 8 in the near table and at octet 9 in the far one every call
+ * answers as it should, and packets leave with another TEID. These calls tell it without a packet, from the tables alone.
+ *
+ * kawsarpa_match_ipv6 takes a Di entry of the near table and the far table, kawsarpa_match_ipv4 a rule of the near table and the far
+ * table, kawsarpa_match_waypoint a waypoint's table and the SID that leads there (a policy's SIDs but the last; a rule's waypoints).
+ * Each answers 0 exactly when they fit. Where the entry or rule and all its waypoints do, every packet that the near gateway sends on
+ * there is delivered by the far gateway with the destination, TEID, QFI, reflective bit, traffic class and inner octets that went in,
+ * if the buffers have room.
+ *
+ *     uint8_t record;
+ *     size_t index;
+ *     uint64_t mismatch = kawsarpa_match_table(near_table, near_len, far_table, far_len, &record, &index);
+ *     if (mismatch != 0)
+ *         printf("%s (far entry %u)\n", kawsarpa_mismatch_name(mismatch), (unsigned int)kawsarpa_mismatch_index(mismatch));
+ *
+ * Index counts from 0. They fit where every Args that can be written (any QFI and TEID; any reflective bit in downlink, 0 in uplink)
+ * and over IPv4 every destination under the rule's prefix lead to one entry of the far table, of the right kind and with the same
+ * values. Destinations that a longer rule of the near table takes away are not left out. A D entry has no far end: only its waypoints
+ * can be asked for.
+ *
+ * Otherwise the first condition that fails is told, by its number, in bits 0 to 7. From KAWSARPA_MISMATCH_KIND on, and for
+ * KAWSARPA_MISMATCH_WAYPOINT_KIND, bits 8 to 15 hold KAWSARPA_RECORD_ENTRY and bits 16 to 31 the index of the entry of the far, or
+ * waypoint's, table: the longest that some such Args and destination lead to, of equally long ones the first. All other bits are 0.
+ *
+ * The caller owes what is owed to the calls. No state is kept.
+ */
+#ifdef __cplusplus
+extern "C" {
+#endif
+
+uint64_t kawsarpa_match_ipv6(const uint8_t *near_table, size_t near_len, size_t index, const uint8_t *far_table, size_t far_len);
+
+uint64_t kawsarpa_match_ipv4(const uint8_t *near_table, size_t near_len, size_t index, const uint8_t *far_table, size_t far_len);
+
+uint64_t kawsarpa_match_waypoint(const uint8_t *table, size_t table_len, const uint8_t *sid, size_t sid_len);
+
+#ifdef __cplusplus
+}
+#endif
+
+/* The conditions. */
+enum {
+    /* the near table is sound */
+    KAWSARPA_MISMATCH_NEAR_UNSOUND = 1,
+    /* the far table is sound */
+    KAWSARPA_MISMATCH_FAR_UNSOUND = 2,
+    /* the near table has an entry (IPv4: a rule) of this index */
+    KAWSARPA_MISMATCH_NO_RECORD = 3,
+    /* IPv6: that entry is Di */
+    KAWSARPA_MISMATCH_NOT_DI = 4,
+    /* some Args (IPv4: and some destination) lead to an entry of the far table */
+    KAWSARPA_MISMATCH_NO_ENTRY = 5,
+    /* the longest entry that some lead to is E6 (IPv4: E4) */
+    KAWSARPA_MISMATCH_KIND = 6,
+    /* its direction is that of the near entry or rule */
+    KAWSARPA_MISMATCH_DIRECTION = 7,
+    /* its session type is */
+    KAWSARPA_MISMATCH_SESSION = 8,
+    /* IPv6: its start of Args is the policy's */
+    KAWSARPA_MISMATCH_START = 9,
+    /* IPv4: its p is the rule's */
+    KAWSARPA_MISMATCH_P = 10,
+    /* IPv4: its q is the rule's */
+    KAWSARPA_MISMATCH_Q = 11,
+    /* the near hop limit is above the number of waypoints */
+    KAWSARPA_MISMATCH_HOP_LIMIT = 12,
+    /* waypoint: the table is sound */
+    KAWSARPA_MISMATCH_WAYPOINT_UNSOUND = 13,
+    /* waypoint: the SID has 16 octets */
+    KAWSARPA_MISMATCH_WAYPOINT_SID = 14,
+    /* waypoint: an entry of the table matches the SID */
+    KAWSARPA_MISMATCH_WAYPOINT_NO_ENTRY = 15,
+    /* waypoint: the longest match is a waypoint entry */
+    KAWSARPA_MISMATCH_WAYPOINT_KIND = 16
+};
+
+/* The condition that fails: KAWSARPA_MISMATCH_... */
+static inline uint8_t kawsarpa_mismatch_condition(uint64_t mismatch)
+{
+    return (uint8_t)(mismatch & 0xFF);
+}
+
+/* KAWSARPA_RECORD_ENTRY where an entry of the far, or waypoint's, table is named, else 0. */
+static inline uint8_t kawsarpa_mismatch_record(uint64_t mismatch)
+{
+    return (uint8_t)(mismatch >> 8 & 0xFF);
+}
+
+/* Which entry. */
+static inline uint16_t kawsarpa_mismatch_index(uint64_t mismatch)
+{
+    return (uint16_t)(mismatch >> 16 & 0xFFFF);
+}
+
+/* A short name for a mismatch; "unknown" for a number that is none. */
+static inline const char *kawsarpa_mismatch_name(uint64_t mismatch)
+{
+    static const char *const names[] = {
+        "fits", "near table not sound", "far table not sound", "no such near entry or rule", "near entry is not Di",
+        "no far entry is reached", "far entry of another kind", "directions differ", "session types differ", "starts of Args differ",
+        "p differs", "q differs", "hop limit not above the number of waypoints", "waypoint table not sound",
+        "SID not of 16 octets", "no entry matches the waypoint", "matched entry is no waypoint"
+    };
+    unsigned int condition = kawsarpa_mismatch_condition(mismatch);
+    return mismatch >> 32 == 0 && condition < sizeof names / sizeof names[0] && (condition != 0 || mismatch == 0) ? names[condition]
+                                                                                                                 : "unknown";
+}
+
+/* The same calls, for a caller whose pointer may be null where the count is 0. */
+
+static inline uint64_t kawsarpa_call_match_ipv6(const uint8_t *near_table, size_t near_len, size_t index, const uint8_t *far_table,
+                                                size_t far_len)
+{
+    uint8_t none = 0;
+    return kawsarpa_match_ipv6(near_len == 0 ? &none : near_table, near_len, index, far_len == 0 ? &none : far_table, far_len);
+}
+
+static inline uint64_t kawsarpa_call_match_ipv4(const uint8_t *near_table, size_t near_len, size_t index, const uint8_t *far_table,
+                                                size_t far_len)
+{
+    uint8_t none = 0;
+    return kawsarpa_match_ipv4(near_len == 0 ? &none : near_table, near_len, index, far_len == 0 ? &none : far_table, far_len);
+}
+
+static inline uint64_t kawsarpa_call_match_waypoint(const uint8_t *table, size_t table_len, const uint8_t *sid, size_t sid_len)
+{
+    uint8_t none = 0;
+    return kawsarpa_match_waypoint(table_len == 0 ? &none : table, table_len, sid_len == 0 ? &none : sid, sid_len);
+}
+
+/*
+ * A whole near table against a far table, but for the waypoints: every Di entry, then every rule. 0 where all fit, also where there are
+ * none; else the first mismatch, with the kind and the index of the near record in `record` and `index`. Where a table is not sound
+ * these are KAWSARPA_RECORD_HEADER and 0.
+ */
+static inline uint64_t kawsarpa_match_table(const uint8_t *near_table, size_t near_len, const uint8_t *far_table, size_t far_len,
+                                            uint8_t *record, size_t *index)
+{
+    uint64_t mismatch;
+    *record = KAWSARPA_RECORD_ENTRY;
+    for (*index = 0;; ++*index) {
+        mismatch = kawsarpa_call_match_ipv6(near_table, near_len, *index, far_table, far_len);
+        if (mismatch == KAWSARPA_MISMATCH_NO_RECORD)
+            break;
+        if (mismatch == KAWSARPA_MISMATCH_NEAR_UNSOUND || mismatch == KAWSARPA_MISMATCH_FAR_UNSOUND)
+            *record = KAWSARPA_RECORD_HEADER;
+        if (mismatch != 0 && mismatch != KAWSARPA_MISMATCH_NOT_DI)
+            return mismatch;
+    }
+    *record = KAWSARPA_RECORD_RULE;
+    for (*index = 0;; ++*index) {
+        mismatch = kawsarpa_call_match_ipv4(near_table, near_len, *index, far_table, far_len);
+        if (mismatch == KAWSARPA_MISMATCH_NO_RECORD)
+            break;
+        if (mismatch != 0)
+            return mismatch;
+    }
+    *record = 0;
+    *index = 0;
+    return 0;
 }
 
 /*

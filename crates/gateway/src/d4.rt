@@ -81,7 +81,7 @@ fn behind(r: &[u8], at: usize, n: usize, address: [u8; 4]) -> [u8; 16]
 }
 
 // The SID that the rule builds.
-fn sid_of(r: &[u8], to: [u8; 4], args: args::Args) -> [u8; 16]
+pub fn sid_of(r: &[u8], to: [u8; 4], args: args::Args) -> [u8; 16]
     requires { ⌜ (length (now r) ≡ 160) × (Rule.p (now r) ≤ 7) ⌝ }
     ensures { λ a. ⌜ a ≡ withArgs (addressBehind (Rule.sidPrefix (now (r .entry))) (Rule.p (now (r .entry))) to) (startBehind (Rule.p (now (r .entry)))) (value args) ⌝ }
 {

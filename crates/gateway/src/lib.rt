@@ -13,3 +13,4 @@ mod waypoint;
 
 pub use calls::translate_ipv4;
 pub use calls::translate_ipv6;
+pub use d4::sid_of;

@@ -7,6 +7,7 @@ ghost use Rattle.rules.specs.Calls.{translate6, translate4};
 ghost use Rattle.rules.specs.Fault.{fault};
 ghost use Rattle.loss.specs.Loss.{offer};
 ghost use Rattle.sequence.specs.Sequence.{sequence6, sequence4};
+ghost use Rattle.pair.specs.Mismatch.{mismatch6, mismatch4, mismatchWaypoint};
 
 // The IPv6 call.
 #[no_mangle]
@@ -41,6 +42,29 @@ pub extern "C" fn kawsarpa_table_fault(table: &[u8]) -> u64
     ensures { λ r. ⌜ r ≡ fault (now (table .entry)) ⌝ }
 {
     table::fault(table)
+}
+
+// Whether the entry, and the rule, of this index in a near table fits a far table, and whether a table fits a waypoint's SID: 0 exactly
+// when they fit, else the first condition that fails.
+#[no_mangle]
+pub extern "C" fn kawsarpa_match_ipv6(near: &[u8], index: usize, far: &[u8]) -> u64
+    ensures { λ r. ⌜ r ≡ mismatch6 (now (near .entry)) (now (far .entry)) index ⌝ }
+{
+    pair::mismatch6(near, far, index)
+}
+
+#[no_mangle]
+pub extern "C" fn kawsarpa_match_ipv4(near: &[u8], index: usize, far: &[u8]) -> u64
+    ensures { λ r. ⌜ r ≡ mismatch4 (now (near .entry)) (now (far .entry)) index ⌝ }
+{
+    pair::mismatch4(near, far, index)
+}
+
+#[no_mangle]
+pub extern "C" fn kawsarpa_match_waypoint(table: &[u8], sid: &[u8]) -> u64
+    ensures { λ r. ⌜ r ≡ mismatchWaypoint (now (table .entry)) (now (sid .entry)) ⌝ }
+{
+    pair::mismatch_waypoint(table, sid)
 }
 
 // An offer of a sequence number to the rows, of which one is changed at most.

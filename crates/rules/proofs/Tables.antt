@@ -72,7 +72,7 @@ module _ (policies : ℕ) (e : List ℕ) (h : entrySound policies e ≡ true) wh
   unfolding entrySound
   sound-session u = where-used (usesSession e) _ (search conjunct depth 20) u
 
-  sound-named : usesPolicy e ≡ true → Entry.policy e < policies
+  pub sound-named : usesPolicy e ≡ true → Entry.policy e < policies
   unfolding entrySound
   sound-named u = ltb-true _ _ (where-used (usesPolicy e) _ (search conjunct depth 20) u)
 

@@ -1,6 +1,6 @@
 pub mod Bounds
 mod Conditions
-mod Longest
+pub mod Longest
 mod Order
-mod Trying
+pub mod Trying
 mod Surely

@@ -35,14 +35,14 @@ const POLICY: u8 = 4;
 
 // A condition's number where it does not hold, and else what is broken behind it. So a record's conditions are put together from the
 // last to the first.
-pub(crate) fn unless(holds: bool, number: u8, behind: u8) -> u8
+pub fn unless(holds: bool, number: u8, behind: u8) -> u8
     ensures { λ r. ⌜ r ≡ cond holds behind number ⌝ }
 {
     if holds { behind } else { number }
 }
 
 // A broken condition with the kind and the index of its record.
-pub(crate) fn told(kind: u8, index: usize, condition: u8) -> u64
+pub fn told(kind: u8, index: usize, condition: u8) -> u64
     requires { ⌜ index < 65536 ⌝ }
     ensures { λ r. ⌜ r ≡ told kind index condition ⌝ }
 {

@@ -12,9 +12,13 @@ mod quick; // quick.rt: a sound table told in one pass
 mod faults; // faults.rt: which condition of soundness a table breaks first
 mod matching; // matching.rt: the longest match
 
+pub use faults::ENTRY;
 pub use faults::fault;
+pub use faults::told;
+pub use faults::unless;
 pub use matching::find_entry;
 pub use matching::find_rule;
+pub use matching::longer_entry;
 pub use records::entries;
 pub use records::entry_at;
 pub use records::policies;

@@ -23,7 +23,7 @@ fn entry_matches(table: &[u8], address: &[u8], i: usize) -> bool
 }
 
 // The longer of what is found so far and entry i, which matches.
-fn longer_entry(table: &[u8], found: Found, i: usize) -> Found
+pub fn longer_entry(table: &[u8], found: Found, i: usize) -> Found
     requires { ⌜ (16 + 64 * (i + 1) ≤ length (now table)) × Below found i ⌝ }
     ensures { λ r. ⌜ r ≡ longer (entryBits (now (table .entry))) found i ⌝ }
 {

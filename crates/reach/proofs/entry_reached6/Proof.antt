@@ -1,0 +1,18 @@
+use borrow.Author.Needs.{needs}
+use Rattle.reach.proofs.entry_reached6.Statement.{statement}
+use Rattle.reach.proofs.entry_reached6.Tie as tie
+
+returns : tie.Need-returns
+returns c =
+    rw (← c .before .before .before .before .entry-at .ensures .same, ← c .before .before .before .window16 .ensures, ← c .before .wide .ensures .0) (c .reaches6 .ensures)
+
+pub entry-reached6-spec : {M : Type 1} → statement M
+entry-reached6-spec =
+    tie.close
+    (tie.spec
+    (λ c κs. search needs)
+    (λ c κs. search needs)
+    (λ c. search needs)
+    (λ c κs. search needs)
+    (λ c κs. search needs)
+    returns)
