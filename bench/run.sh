@@ -23,7 +23,9 @@ renamed=()
 for name in translate_ipv6 translate_ipv4 loss_offer sequence_ipv6 sequence_ipv4; do
     renamed+=("-Dkawsarpa_$name=anchor_$name")
 done
-gcc "${flags[@]}" "${renamed[@]}" -o "$dir/agree" "$here/../tests/c/vectors.c" "$dir"/{anchor,anchor_table,anchor_loss,anchor_sequence}.o
+# The anchor has no test whether tables fit: there the library is linked, and no line below asks for it.
+gcc "${flags[@]}" "${renamed[@]}" -o "$dir/agree" "$here/../tests/c/vectors.c" "$dir"/{anchor,anchor_table,anchor_loss,anchor_sequence}.o \
+    "$lib"
 {
     echo "The anchor judged by the second program"
     "$second" vectors --seed 1 --per-kind 2000 | "$dir/agree"

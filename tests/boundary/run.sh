@@ -38,11 +38,14 @@ step trips 7 "$boundary" trips --seed 1 --cases 20000
 step threads 1 "$boundary" threads --seed 1 --cases 2000
 step loss 38 "$boundary" loss --seed 1 --offers 1000000
 step sequence 24 "$boundary" sequence --seed 1 --cases 300000
-step stack 7 "$boundary" stack
+step match 19 "$boundary" match --seed 1 --cases 1000000
+step match-trips 27 "$boundary" match-trips --seed 1 --cases 300000
+step stack 10 "$boundary" stack
 # seed 2 has every answer number among its first 8,100 cases, every condition among its first 4,000 tables, and no gap among its first
-# 20,000 offers and 10,000 packets
+# 20,000 offers, 10,000 packets and 10,000 pairs
 step "cases under valgrind" 1 "${memcheck[@]}" "$boundary" cases --seed 2 --cases 10000 --threads 1
 step "faults under valgrind" 1 "${memcheck[@]}" "$boundary" faults --seed 2 --cases 10000
 step "trips under valgrind" 2 "${memcheck[@]}" "$boundary" trips --seed 2 --cases 200
 step "loss under valgrind" 1 "${memcheck[@]}" "$boundary" loss --seed 2 --offers 20000
 step "sequence under valgrind" 1 "${memcheck[@]}" "$boundary" sequence --seed 2 --cases 10000
+step "match under valgrind" 1 "${memcheck[@]}" "$boundary" match --seed 2 --cases 10000

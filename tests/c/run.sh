@@ -1,6 +1,6 @@
 #!/usr/bin/env bash
-# run.sh LIB: kawsarpa.h by itself, the symbols of the archive, and calls.c, faults.c and losses.c linked with it as C99, as C++17 and
-# beside the sanitizers.
+# run.sh LIB: kawsarpa.h by itself, the symbols of the archive, and calls.c, faults.c, losses.c and matches.c linked with it as C99, as
+# C++17 and beside the sanitizers.
 set -eu
 
 if [ $# -ne 1 ]; then
@@ -22,7 +22,7 @@ fail() {
 linked() { # WHAT COMPILER...
     local what=$1 program
     shift
-    for program in calls faults losses; do
+    for program in calls faults losses matches; do
         "$@" -O2 -g -Werror -Wall -Wextra -Wpedantic -Wconversion -I "$include" -I "$work" -o "$work/$program" "$here/$program.c" \
             -x none "$lib" || fail "$program.c was not built: $what"
         if ! "$work/$program" >"$work/output" 2>&1; then
@@ -36,8 +36,12 @@ linked() { # WHAT COMPILER...
 [ -r "$lib" ] || fail "no such library: $lib"
 "$here/header.sh" || fail "kawsarpa.h failed"
 "$here/symbols.sh" "$lib" || fail "the symbols of $lib failed"
-# the example that kawsarpa.h gives in its part on lost sequence numbers; losses.c includes it
-sed -n '/^ \* LOST SEQUENCE NUMBERS$/,/^ \*\/$/s/^ \*     //p' "$include/kawsarpa.h" >"$work/example.h"
+# the examples that kawsarpa.h gives in two of its parts; losses.c includes the one, matches.c the other
+example() { # PART
+    sed -n "/^ \* $1\$/,/^ \*\/\$/s/^ \*     //p" "$include/kawsarpa.h"
+}
+example "LOST SEQUENCE NUMBERS" >"$work/example.h"
+example "TABLES THAT FIT" >"$work/match.h"
 linked "C99" gcc -std=c99
 linked "C++17" g++ -x c++ -std=c++17
 linked "C99 with sanitizers" gcc -std=c99 -fsanitize=address,undefined -fno-sanitize-recover=all

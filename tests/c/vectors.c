@@ -1,6 +1,7 @@
-/* Reads lines of `second vectors`, `second loss-vectors` and `second sequence-vectors` from standard input and makes their calls through
-   the library. Compared are, of a case, the answer, the octets sent and every other octet of the output; of a history, each answer and,
-   in the end, every octet of the rows; of a reader, what it gives. Status 0: no difference; 1: a difference, or a line that is not one. */
+/* Reads lines of `second vectors`, `second loss-vectors`, `second sequence-vectors` and `second match-vectors` from standard input and
+   makes their calls through the library. Compared are, of a case, the answer, the octets sent and every other octet of the output; of a
+   history, each answer and, in the end, every octet of the rows; of a reader, what it gives; of a pair, the mismatch. Status 0: no
+   difference; 1: a difference, or a line that is not one. */
 #include "hex.h"
 #include "kawsarpa.h"
 
@@ -11,12 +12,14 @@
 
 enum { FIELDS = 11, MARGIN = 64, ROWS = 512, MARGIN_ROWS = 2, SHOWN = 5 };
 
-/* The fields of a line, in order; those of a loss line and of a sequence line. */
+/* The fields of a line, in order; those of a loss line, of a sequence line, of a match line and of one for a waypoint. */
 enum { KIND, CALL, NUMBER, ICMP_TYPE, ICMP_CODE, ICMP_POINTER, LENGTH, ROOM, PACKET, TABLE, OUT };
 enum { LOSS_BEFORE = 1, LOSS_OFFERS, LOSS_AFTER, LOSS_FIELDS };
 enum { SEQUENCE_CALL = 1, SEQUENCE_VALUE, SEQUENCE_PACKET, SEQUENCE_FIELDS };
+enum { MATCH_CALL = 1, MATCH_MISMATCH, MATCH_INDEX, MATCH_NEAR, MATCH_FAR, MATCH_FIELDS };
+enum { WAYPOINT_TABLE = 3, WAYPOINT_SID, WAYPOINT_FIELDS };
 
-static uint8_t packet[1 << 17], table[1 << 17], expected[1 << 17], out[(1 << 17) + MARGIN];
+static uint8_t packet[1 << 17], table[1 << 17], other[1 << 17], expected[1 << 17], out[(1 << 17) + MARGIN];
 static struct kawsarpa_loss_row rows[ROWS + MARGIN_ROWS];
 static char line[1 << 20];
 
@@ -115,12 +118,41 @@ static int try_sequence(char *fields[FIELDS])
                                                                 : kawsarpa_call_sequence_ipv4(packet, (size_t)packet_len));
 }
 
+static int try_match(char *fields[FIELDS])
+{
+    const long near_len = hex_octets(fields[MATCH_NEAR], table, sizeof table);
+    const long far_len = hex_octets(fields[MATCH_FAR], other, sizeof other);
+    char *end, *index_end;
+    const uint64_t mismatch = strtoul(fields[MATCH_MISMATCH], &end, 16);
+    const size_t index = strtoul(fields[MATCH_INDEX], &index_end, 10);
+    if (near_len < 0 || far_len < 0 || *end != 0 || *index_end != 0 || !is_call(fields[MATCH_CALL]))
+        return -1;
+    return mismatch == (strcmp(fields[MATCH_CALL], "ipv6") == 0
+                            ? kawsarpa_call_match_ipv6(table, (size_t)near_len, index, other, (size_t)far_len)
+                            : kawsarpa_call_match_ipv4(table, (size_t)near_len, index, other, (size_t)far_len));
+}
+
+static int try_waypoint(char *fields[FIELDS])
+{
+    const long table_len = hex_octets(fields[WAYPOINT_TABLE], table, sizeof table);
+    const long sid_len = hex_octets(fields[WAYPOINT_SID], other, sizeof other);
+    char *end;
+    const uint64_t mismatch = strtoul(fields[MATCH_MISMATCH], &end, 16);
+    if (table_len < 0 || sid_len < 0 || *end != 0 || strcmp(fields[MATCH_CALL], "waypoint") != 0)
+        return -1;
+    return mismatch == kawsarpa_call_match_waypoint(table, (size_t)table_len, other, (size_t)sid_len);
+}
+
 static int try_line(char *fields[FIELDS], int n)
 {
     if (n == LOSS_FIELDS && strcmp(fields[KIND], "loss") == 0)
         return try_loss(fields);
     if (n == SEQUENCE_FIELDS && strcmp(fields[KIND], "sequence") == 0)
         return try_sequence(fields);
+    if (n == MATCH_FIELDS && strcmp(fields[KIND], "match") == 0)
+        return try_match(fields);
+    if (n == WAYPOINT_FIELDS && strcmp(fields[KIND], "match") == 0)
+        return try_waypoint(fields);
     return n == FIELDS ? try_case(fields) : -1;
 }
 

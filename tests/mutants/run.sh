@@ -95,6 +95,7 @@ build || { cat "$work/build" >&2 && fail "the second program was not built"; }
     "$program" vectors --seed 3 --per-kind 400 --max-packet 65600
     "$program" loss-vectors --seed 1 --cases 2000
     "$program" sequence-vectors --seed 1 --cases 8000
+    "$program" match-vectors --seed 1 --cases 6000
 } >"$work/lines"
 said=$("$program" check <"$work/lines") || fail "the second program disagrees with its own lines"
 echo "the second program: $said"

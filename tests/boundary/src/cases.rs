@@ -2,12 +2,14 @@
 
 use crate::bench::Bench;
 use crate::loss::{self, Rows};
+use crate::matching::Inputs;
 use crate::mutate;
 use crate::place::Place;
 use crate::progress::{Progress, INTERVAL};
 use crate::raw;
 use second::coverage::Coverage;
 use second::loss::histories;
+use second::matching::pairs;
 use second::{generate, Answer, Case};
 use std::sync::atomic::{AtomicU64, Ordering};
 use std::sync::mpsc::{self, RecvTimeoutError, Sender};
@@ -25,8 +27,8 @@ pub struct Work {
     pub threads: u64,
     /// Mutated cases beside each one that is generated.
     pub mutations: u64,
-    /// Whether a history of offers goes with each block of cases.
-    pub histories: bool,
+    /// Whether a history of offers goes with each block of cases, and a pair with each case.
+    pub others: bool,
     /// The first index that is left out.
     pub end: u64,
     pub deadline: Option<Instant>,
@@ -35,6 +37,7 @@ pub struct Work {
 pub struct Outcome {
     pub cases: u64,
     pub histories: u64,
+    pub pairs: u64,
     pub differences: u64,
     /// Of what the library answered.
     pub coverage: Coverage,
@@ -56,6 +59,7 @@ fn difference(place: Place, case: &Case, found: Answer, why: &str) -> String {
 struct Done {
     cases: AtomicU64,
     histories: AtomicU64,
+    pairs: AtomicU64,
 }
 
 /// What the library answers, and what is wrong with it.
@@ -74,6 +78,7 @@ pub fn judge(bench: &mut Bench, place: Place, case: &Case) -> (Answer, Vec<u8>, 
 fn work(work: &Work, next: &AtomicU64, done: &Done, differences: Sender<String>) -> Coverage {
     let mut bench = Bench::new();
     let mut rows = Rows::new();
+    let mut inputs = Inputs::new();
     let mut coverage = Coverage::default();
     // The receiver outlives the threads.
     let send = |difference| differences.send(difference).unwrap_or_default();
@@ -106,8 +111,13 @@ fn work(work: &Work, next: &AtomicU64, done: &Done, differences: Sender<String>)
                 );
             }
             one(place(0), case);
+            if work.others {
+                let judged = inputs.judge(Place::Pair { seed, index }, &pairs::pair(seed, index));
+                done.pairs.fetch_add(1, Ordering::Relaxed);
+                judged.unwrap_or_else(send);
+            }
         }
-        if work.histories {
+        if work.others {
             let index = first / BLOCK;
             let history = histories::history(seed, index);
             let judged = loss::one(&mut rows, Place::History { seed, index }, &history);
@@ -164,6 +174,7 @@ impl Work {
         Outcome {
             cases: done.cases.into_inner(),
             histories: done.histories.into_inner(),
+            pairs: done.pairs.into_inner(),
             differences,
             coverage,
             seconds: progress.seconds(),

@@ -8,7 +8,7 @@ const STATUS: &str =
     "exit status: 0 all well, 1 a difference, a gap or a call that crashes, 2 wrong usage\n";
 
 /// Each command with its options and its help.
-pub const COMMANDS: [(&str, &[&str], &str); 9] = [
+pub const COMMANDS: [(&str, &[&str], &str); 11] = [
     (
         "cases",
         &["--seed", "--cases", "--threads"],
@@ -51,6 +51,23 @@ pub const COMMANDS: [(&str, &[&str], &str); 9] = [
 ",
     ),
     (
+        "match",
+        &["--seed", "--cases", "--first"],
+        "  boundary match --seed N --cases M [--first I]
+      ask whether tables fit, for M pairs from pair I on (0 if not given); print
+      which condition failed and what the pairs met
+",
+    ),
+    (
+        "match-trips",
+        &["--seed", "--cases", "--first"],
+        "  boundary match-trips --seed N --cases M [--first I]
+      ask whether the tables of M routes fit, from route I on (0 if not given), and
+      send packets along them: where they fit all have to be delivered, where they
+      do not one has to show it; print what the packets did
+",
+    ),
+    (
         "trips",
         &["--seed", "--cases", "--first"],
         "  boundary trips --seed N --cases M [--first I]
@@ -71,16 +88,18 @@ pub const COMMANDS: [(&str, &[&str], &str); 9] = [
         &["--seed", "--per-kind"],
         "  boundary stack [--seed N] [--per-kind K]
       measure the stack that each export uses over K cases (300 if not given) of
-      each kind, in which every answer number occurs, and that of offers and
-      readers over 20 times as many histories and packets
+      each kind, in which every answer number occurs, that of offers and readers
+      over 20 times as many histories and packets, and that of the calls that tell
+      whether tables fit over 80 times as many pairs
 ",
     ),
     (
         "fuzz",
         &["--seconds", "--seed", "--threads"],
         "  boundary fuzz --seconds S [--seed N] [--threads T]
-      make calls for S seconds, of cases and of mutated cases, and histories of
-      offers among them; without a seed, one is taken from the clock
+      make calls for S seconds, of cases and of mutated cases, with histories of
+      offers and pairs of tables among them; without a seed, one is taken from the
+      clock
 ",
     ),
 ];

@@ -2,6 +2,7 @@
 
 use crate::raw::Pages;
 use second::loss::ROW_LENGTH;
+use second::matching::pairs::Ask;
 use second::Call;
 use std::arch::asm;
 
@@ -39,6 +40,26 @@ mod header {
         pub fn kawsarpa_loss_offer(rows: *mut u8, count: usize, teid: u32, number: u16) -> u64;
         pub fn kawsarpa_sequence_ipv6(packet: *const u8, packet_len: usize) -> u64;
         pub fn kawsarpa_sequence_ipv4(packet: *const u8, packet_len: usize) -> u64;
+        pub fn kawsarpa_match_ipv6(
+            near_table: *const u8,
+            near_len: usize,
+            index: usize,
+            far_table: *const u8,
+            far_len: usize,
+        ) -> u64;
+        pub fn kawsarpa_match_ipv4(
+            near_table: *const u8,
+            near_len: usize,
+            index: usize,
+            far_table: *const u8,
+            far_len: usize,
+        ) -> u64;
+        pub fn kawsarpa_match_waypoint(
+            table: *const u8,
+            table_len: usize,
+            sid: *const u8,
+            sid_len: usize,
+        ) -> u64;
     }
 }
 
@@ -104,6 +125,46 @@ impl Export {
 pub fn table_fault(table: &[u8]) -> u64 {
     // SAFETY: a slice is what the header asks for: not null, valid for its count.
     unsafe { header::kawsarpa_table_fault(table.as_ptr(), table.len()) }
+}
+
+pub fn match_name(ask: Ask) -> &'static str {
+    match ask {
+        Ask::Ipv6 => "kawsarpa_match_ipv6",
+        Ask::Ipv4 => "kawsarpa_match_ipv4",
+        Ask::Waypoint => "kawsarpa_match_waypoint",
+    }
+}
+
+/// The mismatch of two tables, or of a waypoint's table and a SID.
+pub fn mismatch(ask: Ask, table: &[u8], index: u64, other: &[u8]) -> u64 {
+    let (at, length) = (table.as_ptr(), table.len());
+    let (other, other_length) = (other.as_ptr(), other.len());
+    let index = index as usize;
+    // SAFETY: slices are what the header asks for.
+    unsafe {
+        match ask {
+            Ask::Ipv6 => header::kawsarpa_match_ipv6(at, length, index, other, other_length),
+            Ask::Ipv4 => header::kawsarpa_match_ipv4(at, length, index, other, other_length),
+            Ask::Waypoint => header::kawsarpa_match_waypoint(at, length, other, other_length),
+        }
+    }
+}
+
+/// The same with the stack pointer at the end of these pages.
+pub fn mismatch_on(stack: &mut Pages, ask: Ask, table: &[u8], index: u64, other: &[u8]) -> u64 {
+    let (at, length) = (table.as_ptr() as u64, table.len() as u64);
+    let (other, other_length) = (other.as_ptr() as u64, other.len() as u64);
+    let of_ends = [at, length, index, other, other_length, 0];
+    let (function, arguments) = match ask {
+        Ask::Ipv6 => (header::kawsarpa_match_ipv6 as *const (), of_ends),
+        Ask::Ipv4 => (header::kawsarpa_match_ipv4 as *const (), of_ends),
+        Ask::Waypoint => (
+            header::kawsarpa_match_waypoint as *const (),
+            [at, length, other, other_length, 0, 0],
+        ),
+    };
+    // SAFETY: as in `mismatch`.
+    unsafe { call_on(stack, function, arguments) }
 }
 
 /// How many rows the octets are. An offer is owed whole rows, aligned as the struct is.

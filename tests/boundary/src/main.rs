@@ -9,6 +9,7 @@ mod help;
 #[allow(unsafe_code)]
 mod library;
 mod loss;
+mod matching;
 mod mutate;
 mod place;
 mod progress;
@@ -24,6 +25,7 @@ use library::Export;
 use place::Place;
 use second::command::{self, Failure, Options};
 use second::coverage::Coverage;
+use second::matching::pairs::Ask;
 use second::{vectors, Call};
 use std::io::Write;
 use std::process::ExitCode;
@@ -95,6 +97,8 @@ fn run(words: &[String], out: &mut dyn Write) -> Result<(), Failure> {
         "faults" => run_faults(options, out),
         "loss" => run_loss(options, out),
         "sequence" => run_sequence(options, out),
+        "match" => run_match(options, out),
+        "match-trips" => run_match_trips(options, out),
         "trips" => run_trips(options, out),
         "threads" => run_threads(options, out),
         "stack" => run_stack(options, out),
@@ -110,7 +114,7 @@ fn run_cases(options: &Options, out: &mut dyn Write) -> Result<(), Failure> {
         seed,
         threads: thread_count(options, processors())?,
         mutations: 0,
-        histories: false,
+        others: false,
         end: cases,
         deadline: None,
     }
@@ -136,14 +140,14 @@ fn run_fuzz(options: &Options, out: &mut dyn Write) -> Result<(), Failure> {
         seed,
         threads,
         mutations: MUTATIONS,
-        histories: true,
+        others: true,
         end: u64::MAX,
         deadline: Some(deadline),
     }
     .run();
-    let histories = outcome.histories;
+    let (histories, pairs) = (outcome.histories, outcome.pairs);
     report(
-        &format!("seed {seed}, {histories} histories of offers"),
+        &format!("seed {seed}, {histories} histories of offers, {pairs} pairs"),
         &outcome,
         out,
     )
@@ -253,6 +257,42 @@ fn run_sequence(options: &Options, out: &mut dyn Write) -> Result<(), Failure> {
     Ok(())
 }
 
+fn run_match(options: &Options, out: &mut dyn Write) -> Result<(), Failure> {
+    let seed = options.get("--seed")?;
+    let cases = count(options, "--cases", None)?;
+    let first = options.get_or("--first", 0);
+    let indices = first..first.saturating_add(cases);
+    let coverage = matching::run(seed, indices).map_err(Failure::Check)?;
+    writeln!(out, "{coverage}")?;
+    // One pair alone is looked at again.
+    if cases > 1 {
+        coverage.judge().map_err(Failure::Check)?;
+    }
+    writeln!(
+        out,
+        "seed {seed}: {cases} pairs, each mismatch as it should be"
+    )?;
+    Ok(())
+}
+
+fn run_match_trips(options: &Options, out: &mut dyn Write) -> Result<(), Failure> {
+    let seed = options.get("--seed")?;
+    let cases = count(options, "--cases", None)?;
+    let first = options.get_or("--first", 0);
+    let indices = first..first.saturating_add(cases);
+    let (tally, packets) = matching::run_trips(seed, indices).map_err(Failure::Check)?;
+    writeln!(out, "{tally}")?;
+    // One route alone is looked at again.
+    if cases > 1 {
+        tally.judge().map_err(Failure::Check)?;
+    }
+    writeln!(
+        out,
+        "seed {seed}: {cases} routes, {packets} packets as the mismatches say"
+    )?;
+    Ok(())
+}
+
 fn run_trips(options: &Options, out: &mut dyn Write) -> Result<(), Failure> {
     let seed = options.get("--seed")?;
     let cases = count(options, "--cases", None)?;
@@ -307,11 +347,16 @@ fn run_stack(options: &Options, out: &mut dyn Write) -> Result<(), Failure> {
     packets.judge().map_err(Failure::Check)?;
     let of_exports = Export::ALL.map(|export| stack::of_export(export, seed, &cases));
     let of_readers = [Call::Ipv6, Call::Ipv4].map(|call| stack::of_reader(call, seed, others));
+    let pairs = others.saturating_mul(4);
+    let met = second::matching::coverage::collect(seed, pairs).map_err(Failure::Check)?;
+    met.judge().map_err(Failure::Check)?;
+    let of_matches = Ask::ALL.map(|ask| stack::of_match(ask, seed, pairs));
     let all = of_exports
         .into_iter()
         .chain([stack::of_offers(seed, others)]);
     let deepest: Vec<_> = all
         .chain(of_readers)
+        .chain(of_matches)
         .collect::<Result<_, _>>()
         .map_err(Failure::Check)?;
     for most in &deepest {

@@ -29,6 +29,16 @@ pub enum Place {
         seed: u64,
         index: u64,
     },
+    /// Tables that are asked whether they fit.
+    Pair {
+        seed: u64,
+        index: u64,
+    },
+    /// Tables for whole trips that are asked it.
+    Route {
+        seed: u64,
+        index: u64,
+    },
     /// The trip by this name.
     Flow5,
     /// The table and packets that threads share.
@@ -55,6 +65,8 @@ impl fmt::Display for Place {
             Place::Table { seed, index } => write!(f, "seed {seed} table {index}"),
             Place::History { seed, index } => write!(f, "seed {seed} history {index}"),
             Place::Reading { seed, index } => write!(f, "seed {seed} packet {index}"),
+            Place::Pair { seed, index } => write!(f, "seed {seed} pair {index}"),
+            Place::Route { seed, index } => write!(f, "seed {seed} route {index}"),
             Place::Flow5 => write!(f, "flow 5 with the reflective bit"),
             Place::Shared { seed, index } => write!(f, "seed {seed} shared case {index}"),
         }
@@ -97,6 +109,15 @@ impl fmt::Display for Command {
                 write!(
                     f,
                     "boundary sequence --seed {seed} --first {index} --cases 1"
+                )
+            }
+            Place::Pair { seed, index } => {
+                write!(f, "boundary match --seed {seed} --first {index} --cases 1")
+            }
+            Place::Route { seed, index } => {
+                write!(
+                    f,
+                    "boundary match-trips --seed {seed} --first {index} --cases 1"
                 )
             }
             Place::Flow5 => write!(f, "boundary trips --seed 1 --cases 1"),

@@ -6,6 +6,7 @@ use crate::library::{self, Export};
 use crate::place::Place;
 use crate::raw::{self, Pages};
 use second::loss::{histories, ROW_LENGTH};
+use second::matching::pairs::{self, Ask};
 use second::sequence::cases as readings;
 use second::{Call, Case};
 
@@ -76,6 +77,25 @@ pub fn of_reader(call: Call, seed: u64, count: u64) -> Result<Deepest, String> {
         let at = || format!("{place}: {:016x}", reading.sequence);
         gauge.measure(place, 1, at, |stack| {
             reading.check_by(|call, packet| library::sequence_on(stack, call, packet))
+        })?;
+    }
+    Ok(gauge.deepest)
+}
+
+/// The same of a call that tells whether tables fit, in the first pairs of a seed.
+pub fn of_match(ask: Ask, seed: u64, count: u64) -> Result<Deepest, String> {
+    let mut gauge = Gauge::new(library::match_name(ask));
+    for index in 0..count {
+        let pair = pairs::pair(seed, index);
+        if pair.ask != ask {
+            continue;
+        }
+        let place = Place::Pair { seed, index };
+        let at = || format!("{place}: {:016x}", pair.mismatch);
+        gauge.measure(place, 1, at, |stack| {
+            pair.check_by(|ask, table, index, other| {
+                library::mismatch_on(stack, ask, table, index, other)
+            })
         })?;
     }
     Ok(gauge.deepest)

@@ -6,6 +6,7 @@ use crate::mutate;
 use crate::place::Place;
 use crate::progress::Progress;
 use crate::raw::{self, Input, Pages, Side, MOST};
+use second::matching::pairs::{self, Ask};
 use second::{generate, sequence, Case};
 use std::ops::Range;
 use std::sync::atomic::{AtomicU64, Ordering};
@@ -46,10 +47,14 @@ pub fn run(seed: u64, indices: Range<u64>, threads: u64) -> Result<Tally, String
         let numbers = cases
             .iter()
             .map(|case| sequence::read(case.call, &case.packet));
+        let mismatches = cases
+            .iter()
+            .map(|case| mismatches(&case.table, &case.packet, pairs::mismatch));
         let shared = Shared {
             place,
             cases: &cases,
             numbers: numbers.collect(),
+            mismatches: mismatches.collect(),
             packets: &packets,
             table: &table,
             start: Barrier::new(outputs.len()),
@@ -80,11 +85,21 @@ pub fn run(seed: u64, indices: Range<u64>, threads: u64) -> Result<Tally, String
     Ok(tally)
 }
 
+/// Whether a table fits itself, and what would be the IPv6 destination of a packet as a waypoint.
+fn mismatches(table: &[u8], packet: &[u8], ask_for: fn(Ask, &[u8], u64, &[u8]) -> u64) -> [u64; 3] {
+    let sid = packet.get(24..40).unwrap_or(packet);
+    Ask::ALL.map(|ask| match ask {
+        Ask::Ipv6 | Ask::Ipv4 => ask_for(ask, table, 0, table),
+        Ask::Waypoint => ask_for(ask, table, 0, sid),
+    })
+}
+
 struct Shared<'a> {
     place: Place,
     cases: &'a [Case],
     /// What the readers of sequence numbers give for the packets.
     numbers: Vec<u64>,
+    mismatches: Vec<[u64; 3]>,
     packets: &'a [Input],
     table: &'a Input,
     start: Barrier,
@@ -124,7 +139,7 @@ impl Shared<'_> {
             let case = &self.cases[number];
             let of_call = exports(case.call);
             let export = of_call[(step / self.cases.len()) % of_call.len()];
-            let (mut others, mut read) = (0, 0);
+            let (mut others, mut read, mut told) = (0, 0, [0; 3]);
             let checked = case.check_by(|_, _, _, out| {
                 let own = &mut output.octets()[MOST - out.len()..];
                 own.copy_from_slice(out);
@@ -132,6 +147,7 @@ impl Shared<'_> {
                 others += self.inside.fetch_add(1, Ordering::Relaxed);
                 let packed = export.call(packet, table, own);
                 read = library::sequence(case.call, packet);
+                told = mismatches(table, packet, library::mismatch);
                 others += self.inside.fetch_sub(1, Ordering::Relaxed) - 1;
                 out.copy_from_slice(own);
                 packed
@@ -140,7 +156,11 @@ impl Shared<'_> {
                 wanted if wanted == read => Ok(()),
                 wanted => Err(format!("number read {read:016x}; expected {wanted:016x}")),
             };
-            checked.and(numbered).map_err(|why| {
+            let matched = match self.mismatches[number] {
+                wanted if wanted == told => Ok(()),
+                wanted => Err(format!("mismatches {told:x?}; expected {wanted:x?}")),
+            };
+            checked.and(numbered).and(matched).map_err(|why| {
                 let place = self.place;
                 format!(
                     "{place}, packet {number} of {}, {}: {why}\n  run again: {}",

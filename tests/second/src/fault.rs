@@ -153,7 +153,7 @@ pub fn table(seed: u64, index: u64) -> Vec<u8> {
     octets
 }
 
-fn change(rng: &mut Rng, octets: &mut Vec<u8>) {
+pub fn change(rng: &mut Rng, octets: &mut Vec<u8>) {
     let [entries, rules, policies] = counts(octets);
     let (rules_at, policies_at) = (16 + 64 * entries, 16 + 64 * entries + 160 * rules);
     let (e, k, j) = (rng.below(entries), rng.below(rules), rng.below(policies));

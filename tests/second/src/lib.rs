@@ -4,6 +4,7 @@
 //! - [`translate`]: the two calls, [`translate_ipv6`] and [`translate_ipv4`];
 //! - [`table`]: the table octets and what makes a table sound;
 //! - [`fault`]: which condition a table breaks first;
+//! - [`matching`]: whether the tables of a trip fit;
 //! - [`ipv6`], [`ipv4`], [`udp`], [`gtpu`], [`args`]: what is read;
 //! - [`outgoing`]: what is written;
 //! - [`loss`], [`sequence`]: lost sequence numbers, and the readers of those numbers;
@@ -22,6 +23,7 @@ pub mod gtpu;
 pub mod ipv4;
 pub mod ipv6;
 pub mod loss;
+pub mod matching;
 pub mod outgoing;
 pub mod program;
 pub mod rng;

@@ -2,6 +2,7 @@
 
 use second::command::{self, Failure, Options};
 use second::loss::histories;
+use second::matching::{self, pairs};
 use second::sequence::cases as readings;
 use second::tally::Tally;
 use second::{coverage, generate, loss, program, sequence, trips, vectors, worked, Kind};
@@ -30,6 +31,15 @@ usage:
   second sequence-vectors --seed N --cases M [--first I] [--max-packet L]
       print those of M packets from I on that have at most L octets (400 if not
       given), a line each: sequence call value packet-hex
+  second match-coverage --seed N --cases M
+      generate M pairs of tables, or of a waypoint's table and a SID, print which
+      condition failed and what they met
+  second match-vectors --seed N --cases M [--first I]
+      print M pairs from I on (0 if not given), a line each: match ipv6 mismatch
+      index near-hex far-hex, the same with ipv4, or match waypoint mismatch
+      table-hex sid-hex
+  second match-trips --seed N --cases M
+      draw M routes, ask whether their tables fit, and send packets along them
   second check
       read lines of any of these forms from standard input and run them here
   second worked
@@ -153,6 +163,36 @@ fn run(words: &[String], out: &mut dyn Write) -> Result<(), Failure> {
                 }
             }
         }
+        "match-coverage" => {
+            let options = Options::parse(rest, &["--seed", "--cases"])?;
+            let (seed, cases) = (options.get("--seed")?, options.get("--cases")?);
+            let coverage = matching::coverage::collect(seed, cases).map_err(Failure::Check)?;
+            writeln!(out, "{coverage}")?;
+            coverage.judge().map_err(Failure::Check)?;
+            writeln!(out, "seed {seed}: {cases} pairs, no gap")?;
+        }
+        "match-vectors" => {
+            let options = Options::parse(rest, &["--seed", "--cases", "--first"])?;
+            let (seed, cases) = (options.get("--seed")?, options.get("--cases")?);
+            let first = options.get_or("--first", 0);
+            writeln!(out, "# seed {seed}, {cases} pairs from {first} on")?;
+            writeln!(out, "# match ipv6 mismatch index near-hex far-hex")?;
+            writeln!(out, "# match ipv4 mismatch index near-hex far-hex")?;
+            writeln!(out, "# match waypoint mismatch table-hex sid-hex")?;
+            for index in first..first.saturating_add(cases) {
+                writeln!(out, "{}", pairs::line(&pairs::pair(seed, index)))?;
+            }
+        }
+        "match-trips" => {
+            let options = Options::parse(rest, &["--seed", "--cases"])?;
+            let (seed, cases) = (options.get("--seed")?, options.get("--cases")?);
+            let (tally, packets) = matching::trips::run(seed, cases).map_err(Failure::Check)?;
+            say_tally(out, &tally)?;
+            writeln!(
+                out,
+                "seed {seed}: {cases} routes, {packets} packets as the mismatches say"
+            )?;
+        }
         "check" => {
             Options::parse(rest, &[])?;
             let (mut checked, mut differing, mut first) = (0, 0, None);
@@ -226,6 +266,7 @@ fn check_line(line: &str) -> Result<(&'static str, Result<(), String>), String> 
     match line.split(' ').next() {
         Some("loss") => Ok(("loss", histories::parse(line)?.check())),
         Some("sequence") => Ok(("sequence", readings::parse(line)?.check())),
+        Some("match") => Ok(("match", pairs::parse(line)?.check())),
         _ => {
             let case = vectors::parse(line)?;
             Ok((case.kind.name(), case.check()))

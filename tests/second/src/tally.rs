@@ -82,12 +82,14 @@ impl fmt::Display for Tally {
             columns,
             can_occur,
         } = self.shape;
-        write!(f, "{corner:>9}")?;
+        let names = lines.iter().map(|line| line.chars().count());
+        let width = names.max().unwrap_or(0).max(9);
+        write!(f, "{corner:>width$}")?;
         for column in *columns {
             write!(f, " {column:>9}")?;
         }
         for (line, counts) in lines.iter().zip(&self.table) {
-            write!(f, "\n{line:>9}")?;
+            write!(f, "\n{line:>width$}")?;
             for (column, &count) in columns.iter().zip(counts) {
                 match (count, can_occur(line, column)) {
                     (0, false) => write!(f, " {:>9}", "-")?,

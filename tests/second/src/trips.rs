@@ -242,7 +242,7 @@ fn inner(rng: &mut Rng, session: Session, most: usize) -> Vec<u8> {
 }
 
 /// The values that the layouts read from what went in.
-struct Values {
+pub struct Values {
     traffic_class: u8,
     teid: u32,
     qfi: u8,
@@ -251,7 +251,7 @@ struct Values {
 }
 
 impl Values {
-    fn of(traffic_class: u8, gtpu: &packets::GtpuDraft, direction: Direction) -> Self {
+    pub fn of(traffic_class: u8, gtpu: &packets::GtpuDraft, direction: Direction) -> Self {
         let octet = gtpu.extensions[0].contents[1];
         Values {
             traffic_class,
@@ -293,6 +293,57 @@ impl Values {
         octets.push(0);
         octets.extend(&self.inner);
         octets
+    }
+
+    /// What E6 writes from these values and its entry.
+    pub fn from_e6(&self, destination: u128, far: &Entry) -> Vec<u8> {
+        let mut octets = vec![
+            0x60 | self.traffic_class >> 4,
+            self.traffic_class << 4,
+            0,
+            0,
+        ];
+        octets.extend(((24 + self.inner.len()) as u16).to_be_bytes());
+        octets.extend([17, far.hop_limit]);
+        octets.extend(far.source.to_be_bytes());
+        octets.extend(destination.to_be_bytes());
+        octets.extend(self.tunnelled_by(far));
+        octets
+    }
+
+    /// What E4 writes from these values and its entry.
+    pub fn from_e4(&self, source: u32, destination: u32, far: &Entry) -> Vec<u8> {
+        let mut octets = vec![0x45, self.traffic_class];
+        octets.extend(((44 + self.inner.len()) as u16).to_be_bytes());
+        octets.extend([0, 0, 0x40, 0, far.hop_limit, 17, 0, 0]);
+        octets.extend(source.to_be_bytes());
+        octets.extend(destination.to_be_bytes());
+        let sum: u32 = octets
+            .chunks(2)
+            .map(|pair| u32::from(pair[0]) * 256 + u32::from(pair[1]))
+            .sum();
+        let folded = sum % 65_535;
+        // No sum of such a header is 0, so 0 stands for FFFF.
+        let checksum = if folded == 0 { 0 } else { 65_535 - folded };
+        octets[10..12].copy_from_slice(&(checksum as u16).to_be_bytes());
+        octets.extend(self.tunnelled_by(far));
+        octets
+    }
+
+    fn tunnelled_by(&self, far: &Entry) -> Vec<u8> {
+        match far.behaviour {
+            Behaviour::E6 {
+                session,
+                source_port,
+                ..
+            }
+            | Behaviour::E4 {
+                session,
+                source_port,
+                ..
+            } => self.tunnelled(source_port, session.direction),
+            _ => unreachable!("an E6 or E4 entry"),
+        }
     }
 }
 
@@ -380,17 +431,7 @@ fn trip6(rng: &mut Rng) -> Trip {
     let far = tables::entry(rng, Ipv6Prefix::of(last, prefix_length), behaviour);
     stops.push(far_stop(rng, arriving, far, 64 + values.inner.len()));
 
-    let mut wanted = vec![
-        0x60 | values.traffic_class >> 4,
-        values.traffic_class << 4,
-        0,
-        0,
-    ];
-    wanted.extend(((24 + values.inner.len()) as u16).to_be_bytes());
-    wanted.extend([17, far.hop_limit]);
-    wanted.extend(far.source.to_be_bytes());
-    wanted.extend(destination.to_be_bytes());
-    wanted.extend(values.tunnelled(source_port, session.direction));
+    let wanted = values.from_e6(destination, &far);
     finish(rng, Family::Ipv6, packet, stops, wanted, spent_at)
 }
 
@@ -486,20 +527,7 @@ fn trip4(rng: &mut Rng) -> Trip {
     );
     stops.push(far_stop(rng, sid, far, 44 + values.inner.len()));
 
-    let mut wanted = vec![0x45, tos];
-    wanted.extend(((44 + values.inner.len()) as u16).to_be_bytes());
-    wanted.extend([0, 0, 0x40, 0, far.hop_limit, 17, 0, 0]);
-    wanted.extend(source.to_be_bytes());
-    wanted.extend(destination.to_be_bytes());
-    let sum: u32 = wanted
-        .chunks(2)
-        .map(|pair| u32::from(pair[0]) * 256 + u32::from(pair[1]))
-        .sum();
-    let folded = sum % 65_535;
-    // No sum of such a header is 0, so 0 stands for FFFF.
-    let checksum = if folded == 0 { 0 } else { 65_535 - folded };
-    wanted[10..12].copy_from_slice(&(checksum as u16).to_be_bytes());
-    wanted.extend(values.tunnelled(source_port, session.direction));
+    let wanted = values.from_e4(source, destination, &far);
     finish(rng, Family::Ipv4, packet, stops, wanted, spent_at)
 }
 

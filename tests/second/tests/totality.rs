@@ -3,6 +3,7 @@
 
 use second::generate::{case, translate, Call};
 use second::loss::{self, Row};
+use second::matching::pairs::{mismatch, Ask};
 use second::rng::Rng;
 use second::{sequence, Answer};
 
@@ -16,6 +17,16 @@ fn run_both(packet: &[u8], table: &[u8], room: usize, filler: u8) {
         assert!(answer.number == 0 || length == 0);
         assert!(out[length..].iter().all(|&octet| octet == filler));
         assert!(matches!(sequence::read(call, packet) >> 48, 0 | 1));
+    }
+    for ask in Ask::ALL {
+        for (other, index) in [(packet, 0), (table, 0), (table, u64::MAX)] {
+            let mismatch = mismatch(ask, table, index, other);
+            let (condition, record) = (mismatch as u8, mismatch >> 8 & 0xff);
+            assert!(ask.numbers().contains(&condition));
+            assert_eq!(record == 2, matches!(condition, 6..=12 | 16));
+            assert!(record == 2 || mismatch >> 8 == 0);
+            assert!(mismatch >> 16 < 64);
+        }
     }
 }
 

@@ -173,7 +173,7 @@ fn behaviour(rng: &mut Rng, kind: Kind, policies: usize) -> Behaviour {
     }
 }
 
-fn longest_prefix(behaviour: &Behaviour) -> u8 {
+pub fn longest_prefix(behaviour: &Behaviour) -> u8 {
     match behaviour {
         Behaviour::E6 { args_start, .. } => 8 * args_start,
         Behaviour::E4 { places, .. } => 8 * places.p,
@@ -195,7 +195,7 @@ fn prefix_length(rng: &mut Rng, most: u8) -> u8 {
 }
 
 /// Any behaviour that a prefix of this length allows.
-fn other_behaviour(rng: &mut Rng, length: u8, policies: usize) -> Behaviour {
+pub fn other_behaviour(rng: &mut Rng, length: u8, policies: usize) -> Behaviour {
     loop {
         let kind = rng.pick(&[Kind::Waypoint, Kind::D, Kind::Di, Kind::E6, Kind::E4]);
         if policies == 0 && matches!(kind, Kind::D | Kind::Di) {
