@@ -11,14 +11,6 @@
 
 enum { SNAPPED_SAID = 5 };
 
-bool capture_is_input(const char *out, const char *in)
-{
-    const bool same = file_same(out, in);
-    if (same)
-        say_error_at(out, 0, "is the capture that is read, and would be replaced");
-    return same;
-}
-
 /* Opens the file and reads its head; the exit code. libpcap closes the file of a capture; after a fault it is left to us. */
 static int open_pcap(struct capture_reader *reader, const char *name)
 {

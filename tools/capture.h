@@ -29,9 +29,6 @@ struct capture_reader {
     int code; /* not 0: a fault was reported, and this is the exit code */
 };
 
-/* Whether a capture to write is the one to read; if so, it is reported. */
-bool capture_is_input(const char *out, const char *in);
-
 /* Opens a capture; "-" is standard input. 0, or the exit code after the fault was reported. */
 int capture_open(struct capture_reader *reader, const char *name);
 

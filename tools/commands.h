@@ -4,8 +4,8 @@
 
 enum {
     EXIT_DONE = 0,
-    EXIT_INPUT = 1,  /* the input is bad; check: the table is not sound; trip: the packet did not arrive */
-    EXIT_USAGE = 2,  /* wrong options or arguments */
+    EXIT_INPUT = 1,  /* the input is bad; check: the table is not sound; match: one does not fit; trip: one did not arrive, or changed */
+    EXIT_USAGE = 2,  /* wrong options or arguments; an output that is an input */
     EXIT_SYSTEM = 3  /* the system failed: cannot open, read or write */
 };
 
@@ -13,6 +13,7 @@ enum {
 int command_compile(int argc, char **argv);
 int command_show(int argc, char **argv);
 int command_check(int argc, char **argv);
+int command_match(int argc, char **argv);
 int command_explain(int argc, char **argv);
 int command_translate(int argc, char **argv);
 int command_trip(int argc, char **argv);

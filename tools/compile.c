@@ -5,7 +5,6 @@
 #include "build.h"
 #include "commands.h"
 #include "file.h"
-#include "say.h"
 #include "table.h"
 #include "values.h"
 
@@ -44,8 +43,8 @@ static error_t parse(int key, char *argument, struct argp_state *state)
 }
 
 static const char help_text[] =
-    "Makes a table of its description in YAML (docs/TABLES.md). The table is written only if the library finds it sound; entries and rules "
-    "stand in it in the order of their prefixes. DESCRIPTION and TABLE may be `-'."
+    "Makes a table of its description in YAML, see kawsarpa-table(5). The table is written only if the library finds it sound; entries and "
+    "rules stand in it in the order of their prefixes. DESCRIPTION and TABLE may be `-'. TABLE may not be DESCRIPTION."
     "\vExit codes: 0 written; 1 the description is bad, or its table not sound; 2 wrong usage; 3 the system failed.";
 
 static const struct argp argp = {option_list, parse, "DESCRIPTION -o TABLE", help_text, NULL, NULL, NULL};
@@ -131,10 +130,8 @@ int command_compile(int argc, char **argv)
     struct octets text;
     struct marks marks;
     argp_parse(&argp, argc, argv, 0, NULL, &options);
-    if (file_same(options.description, options.table)) {
-        say_error_at(options.table, 0, "is the description, and would be replaced by the table");
+    if (output_is_input(options.table, options.description, "the description"))
         return EXIT_USAGE;
-    }
     int code = file_read(options.description, DESCRIPTION_MOST, &text);
     if (code != EXIT_DONE)
         return code;

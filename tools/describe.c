@@ -3,17 +3,13 @@
 #include <arpa/inet.h>
 #include <sys/socket.h>
 
+#include "formats.h"
 #include "kawsarpa.h"
 #include "octets.h"
 
-enum { IPV4_HEADER = 20, IPV6_HEADER = 40, SRH_FRONT = 8, SEGMENT = 16, UDP_HEADER = 8, GTPU_HEADER = 8, GTPU_OPTIONAL = 4 };
+enum { SRH_FRONT = 8, SEGMENT = 16, ROUTING_TYPE_SRH = 4 };
 
-enum { NEXT_IPV4 = 4, NEXT_UDP = 17, NEXT_IPV6 = 41, NEXT_ROUTING = 43, NEXT_ETHERNET = 143 };
-
-enum { ROUTING_TYPE_SRH = 4, GTPU_PORT = 2152, EXTENSION_CONTAINER = 0x85 };
-
-/* GTP-U message types (TS 29.281). */
-enum { ECHO_REQUEST = 1, ECHO_RESPONSE = 2, ERROR_INDICATION = 26, END_MARKER = 254, G_PDU = 255 };
+enum { NEXT_IPV4 = 4, NEXT_IPV6 = 41, NEXT_ROUTING = 43, NEXT_ETHERNET = 143 };
 
 /* What of the packet is still to be read. */
 struct rest {

@@ -12,11 +12,13 @@
 
 struct options {
     bool fault;
+    bool match;
     const char *number;
 };
 
 static const struct argp_option option_list[] = {
     {"fault", 'f', NULL, 0, "NUMBER is a table's fault, as `kawsarpa check' prints it and kawsarpa_table_fault gives it", 0},
+    {"match", 'm', NULL, 0, "NUMBER is a mismatch of tables, as `kawsarpa match' prints it and kawsarpa_match_ipv6 gives it", 0},
     {NULL, 0, NULL, 0, NULL, 0},
 };
 
@@ -27,6 +29,9 @@ static error_t parse(int key, char *argument, struct argp_state *state)
     case 'f':
         options->fault = true;
         return 0;
+    case 'm':
+        options->match = true;
+        return 0;
     case ARGP_KEY_ARG:
         if (options->number != NULL)
             argp_error(state, "one number is enough: %s", argument);
@@ -35,14 +40,18 @@ static error_t parse(int key, char *argument, struct argp_state *state)
     case ARGP_KEY_NO_ARGS:
         argp_error(state, "a number is needed");
         return 0;
+    case ARGP_KEY_END:
+        if (options->fault && options->match)
+            argp_error(state, "a number is a fault or a mismatch, not both");
+        return 0;
     default:
         return ARGP_ERR_UNKNOWN;
     }
 }
 
 static const char help_text[] =
-    "Says what an answer (0 to 16, 25 or 26) means, what it is likely to come from, and what to do next; or, with --fault, what is wrong "
-    "with a table. NUMBER is decimal, or hexadecimal behind 0x."
+    "Says what an answer (0 to 16, 25 or 26) means, what it is likely to come from, and what to do next; with --fault, what is wrong with "
+    "a table; with --match, why tables do not fit. NUMBER is decimal, or hexadecimal behind 0x."
     "\vExit codes: 0 explained; 1 there is no such number; 2 wrong usage; 3 the system failed.";
 
 static const struct argp argp = {option_list, parse, "NUMBER", help_text, NULL, NULL, NULL};
@@ -114,14 +123,40 @@ static int explain_fault(const char *text, unsigned long long fault)
     return EXIT_DONE;
 }
 
+/* The library names an entry with some conditions; the number of a condition alone will do for each. */
+static int explain_mismatch(const char *text, unsigned long long mismatch)
+{
+    const unsigned int condition = kawsarpa_mismatch_condition(mismatch);
+    const bool entry = kawsarpa_mismatch_record(mismatch) == KAWSARPA_RECORD_ENTRY;
+    const struct mismatch_words *failing = mismatch_words(condition);
+    if (mismatch == 0) {
+        puts("0: the tables fit");
+        return EXIT_DONE;
+    }
+    if (failing == NULL || mismatch >> 32 != 0 || (!entry && mismatch >> 8 != 0)) {
+        say_error("%s is no mismatch of tables: conditions are %d to %d, as `kawsarpa match' prints them", text,
+                  KAWSARPA_MISMATCH_NEAR_UNSOUND, KAWSARPA_MISMATCH_WAYPOINT_KIND);
+        return EXIT_INPUT;
+    }
+    printf("%llu: %s", mismatch, kawsarpa_mismatch_name(mismatch));
+    if (entry)
+        printf(", condition %u, entry %u (from 1)", condition, kawsarpa_mismatch_index(mismatch) + 1U);
+    putchar('\n');
+    print_words("Means:", failing->means);
+    print_words("Next step:", failing->next);
+    return EXIT_DONE;
+}
+
 int command_explain(int argc, char **argv)
 {
-    struct options options = {false, NULL};
+    struct options options = {false, false, NULL};
     unsigned long long number = 0;
     argp_parse(&argp, argc, argv, 0, NULL, &options);
     if (!read_number(options.number, &number)) {
         say_error("%s is no number", options.number);
         return EXIT_USAGE;
     }
-    return options.fault ? explain_fault(options.number, number) : explain_answer(options.number, number);
+    if (options.fault)
+        return explain_fault(options.number, number);
+    return options.match ? explain_mismatch(options.number, number) : explain_answer(options.number, number);
 }

@@ -10,6 +10,7 @@
 
 #include "commands.h"
 #include "say.h"
+#include "temporary.h"
 
 static const char SUFFIX[] = ".XXXXXX";
 
@@ -77,12 +78,37 @@ int file_read(const char *name, size_t most, struct octets *octets)
 
 static bool fault_said;
 
-bool file_same(const char *a, const char *b)
+/* Whether a name is that of a regular file, and which; "-" is what a standard stream was redirected to. */
+static bool find_regular(const char *name, int standard_stream, struct stat *status)
 {
-    struct stat status_a;
-    struct stat status_b;
-    return !is_standard(a) && !is_standard(b) && stat(a, &status_a) == 0 && stat(b, &status_b) == 0 && S_ISREG(status_a.st_mode) &&
-           status_a.st_dev == status_b.st_dev && status_a.st_ino == status_b.st_ino;
+    const int found = is_standard(name) ? fstat(standard_stream, status) : stat(name, status);
+    return found == 0 && S_ISREG(status->st_mode);
+}
+
+static bool same_file(const struct stat *a, const struct stat *b)
+{
+    return a->st_dev == b->st_dev && a->st_ino == b->st_ino;
+}
+
+bool output_is_input(const char *out, const char *in, const char *what)
+{
+    struct stat written;
+    struct stat read;
+    if (!find_regular(out, STDOUT_FILENO, &written) || !find_regular(in, STDIN_FILENO, &read) || !same_file(&written, &read))
+        return false;
+    say_error_at(file_shown_name(out, "standard output"), 0, "is %s that is read, and would be replaced", what);
+    return true;
+}
+
+bool output_is_stream(const char *out, FILE *stream)
+{
+    struct stat written;
+    struct stat printed;
+    if (!find_regular(out, STDOUT_FILENO, &written) || fstat(fileno(stream), &printed) != 0 || !same_file(&written, &printed))
+        return false;
+    say_error_at(file_shown_name(out, "standard output"), 0, "is the file that standard %s goes to, and can hold only one of the two",
+                 stream == stderr ? "error" : "output");
+    return true;
 }
 
 int output_fault(const struct output *output)
@@ -116,14 +142,14 @@ static mode_t mode_of(const char *name)
 
 static FILE *open_temporary(const struct output *output)
 {
-    const int descriptor = mkstemp(output->temporary);
+    const int descriptor = temporary_create(output->temporary);
     if (descriptor < 0)
         return NULL;
     FILE *file = fchmod(descriptor, mode_of(output->final)) == 0 ? fdopen(descriptor, "wb") : NULL;
     if (file == NULL) {
+        temporary_remove();
         const int reason = errno;
         close(descriptor);
-        unlink(output->temporary);
         errno = reason;
     }
     return file;
@@ -197,12 +223,11 @@ static bool settle(struct output *output)
 
 int output_commit(struct output *output)
 {
-    int code = EXIT_DONE;
-    if (!settle(output) || (output->temporary != NULL && rename(output->temporary, output->final) != 0)) {
-        code = output_fault(output);
-        if (output->temporary != NULL)
-            unlink(output->temporary);
-    }
+    const bool settled = settle(output);
+    if (!settled && output->temporary != NULL)
+        temporary_remove();
+    const bool done = settled && (output->temporary == NULL || temporary_keep(output->final));
+    const int code = done ? EXIT_DONE : output_fault(output);
     forget_names(output);
     return code;
 }
@@ -213,6 +238,6 @@ void output_abandon(struct output *output)
         return;
     close_file(output);
     if (output->temporary != NULL)
-        unlink(output->temporary);
+        temporary_remove();
     forget_names(output);
 }

@@ -21,16 +21,19 @@ const char *file_shown_name(const char *name, const char *standard_stream);
 /* Reads all octets of a file. One with more octets than `most` is refused. 0, or the exit code after the fault was reported. */
 int file_read(const char *name, size_t most, struct octets *octets);
 
-/* Whether two names are of one regular file, which would be replaced by what is made of it. */
-bool file_same(const char *a, const char *b);
-
-/* A file that appears under its name only when it is whole. */
+/* A file that appears under its name only when it is whole, also where a signal ends the program. */
 struct output {
     const char *name; /* for messages */
     char *final;      /* the name behind all links; NULL where the file is written in place */
     char *temporary;  /* the name until then */
     FILE *file;       /* NULL: nothing is open */
 };
+
+/* Whether a file to write is a regular file that is read too, by device and inode; if so, it is reported. `what` names the input. */
+bool output_is_input(const char *out, const char *in, const char *what);
+
+/* Whether it is the regular file that a standard stream goes to; if so, it is reported. */
+bool output_is_stream(const char *out, FILE *stream);
 
 /* 0, or the exit code after the fault was reported. */
 int output_open(struct output *output, const char *name);

@@ -2,6 +2,7 @@
 
 #include <pcap/pcap.h>
 
+#include "formats.h"
 #include "octets.h"
 
 enum {
@@ -15,7 +16,7 @@ enum {
 /* DLT_RAW has another number on OpenBSD, and its captures bear it. */
 enum { DLT_RAW_OPENBSD = 14 };
 
-enum { IPV4_HEADER = 20, IPV6_HEADER = 40, TAG = 4 };
+enum { TAG = 4 };
 
 /* Where a link type holds the type of what it carries, and where that begins. */
 struct link {

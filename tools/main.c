@@ -8,6 +8,7 @@
 
 #include "commands.h"
 #include "file.h"
+#include "kawsarpa.h"
 
 struct command {
     const char *name;
@@ -19,7 +20,8 @@ static const struct command commands[] = {
     {"compile", "make a table of its description", command_compile},
     {"show", "print the description of a table", command_show},
     {"check", "say whether a table is sound, and what it does to packet lengths", command_check},
-    {"explain", "say what an answer or a fault of a table means", command_explain},
+    {"match", "say whether the tables of a trip belong together", command_match},
+    {"explain", "say what an answer, a fault or a mismatch of tables means", command_explain},
     {"translate", "send the packets of a capture through a table", command_translate},
     {"trip", "send the packets of a capture through every stop of a trip", command_trip},
     {"loss", "count the lost sequence numbers of each TEID in a capture", command_loss},
@@ -80,12 +82,19 @@ static const char help_text[] =
     "Tables and captures of the gateway between GTP-U and SRv6 (RFC 9433)."
     "\v`kawsarpa COMMAND --help' says more. FILE may be `-', standard input or output.\n"
     "\n"
-    "Exit codes: 0 done; 1 the input is bad (check: the table is not sound; trip: the packet did not arrive); 2 wrong usage; "
-    "3 the system failed: cannot open, read or write.";
+    "Exit codes: 0 done; 1 the input is bad (check: the table is not sound; match: tables do not fit; trip: a packet did not "
+    "arrive, or arrived changed); 2 wrong usage; 3 the system failed: cannot open, read or write.";
 
 static const struct argp argp = {NULL, parse, "COMMAND [ARGUMENT...]", help_text, NULL, help, NULL};
 
-const char *argp_program_version = "kawsarpa 1.0, table format 1";
+/* TOOLCHAIN is what rt.version says; the Makefile gives it. */
+static void say_version(FILE *to, struct argp_state *state)
+{
+    (void)state;
+    fprintf(to, "kawsarpa %s, table format %d\nproofs checked with %s\n", KAWSARPA_VERSION, KAWSARPA_FORMAT, TOOLCHAIN);
+}
+
+void (*argp_program_version_hook)(FILE *to, struct argp_state *state) = say_version;
 
 /* What was printed counts as done only when it is written. */
 static void close_output(void)
@@ -99,7 +108,8 @@ int main(int argc, char **argv)
     struct chosen chosen = {NULL, 0};
     char name[64];
     file_hold_standard();
-    signal(SIGPIPE, SIG_IGN);
+    signal(SIGPIPE, SIG_IGN); /* the write fails, and that is reported */
+    signal(SIGXFSZ, SIG_IGN);
     argp_err_exit_status = EXIT_USAGE;
     argv[0] = "kawsarpa";
     if (atexit(close_output) != 0)

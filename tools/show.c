@@ -29,8 +29,8 @@ static error_t parse(int key, char *argument, struct argp_state *state)
 }
 
 static const char help_text[] =
-    "Prints the description of a sound table as YAML (docs/TABLES.md). A table holds no names: records are called waypoint-1, policy-1, "
-    "entry-1, rule-1 and so on. `kawsarpa compile' makes the same octets of it, if it made the table. TABLE may be `-'."
+    "Prints the description of a sound table as YAML, see kawsarpa-table(5). A table holds no names: records are called waypoint-1, "
+    "policy-1, entry-1, rule-1 and so on. `kawsarpa compile' makes the same octets of it, if it made the table. TABLE may be `-'."
     "\vExit codes: 0 printed; 1 the table is not sound; 2 wrong usage; 3 the system failed.";
 
 static const struct argp argp = {NULL, parse, "TABLE", help_text, NULL, NULL, NULL};

@@ -111,6 +111,13 @@ static int translate_capture(struct run *run, const struct arguments *arguments)
     return code;
 }
 
+/* Whether what is written would replace something that is read, or printed beside it; if so, it is reported. */
+static bool output_taken(const struct arguments *arguments, FILE *account)
+{
+    return output_is_input(arguments->out, arguments->in, "the capture") ||
+           output_is_input(arguments->out, arguments->table, "the table") || output_is_stream(arguments->out, account);
+}
+
 /* Options without a short name have numbers past those of characters. */
 enum { OPTION_TABLE = 256, OPTION_TRACE };
 
@@ -145,9 +152,10 @@ static const struct argp_option option_list[] = {
 };
 
 static const char words[] =
-    "Makes the call of its IP version for each packet of a capture, and counts the answers. IN.pcap is a pcap or pcapng capture of Ethernet, "
-    "Linux cooked or raw IP. OUT.pcap gets what is sent, as raw IP with the times of the packets that went in. Frames that are not IP or "
-    "are snapped are left out and counted; padding of the link is cut off. TABLE, IN.pcap and OUT.pcap may be `-'; if OUT.pcap is, all else is printed on standard error."
+    "Makes the call of its IP version for each packet of a capture, and counts the answers. IN.pcap is a pcap or pcapng capture of "
+    "Ethernet, Linux cooked or raw IP. OUT.pcap gets what is sent, as raw IP with the times of the packets that went in. Frames that are "
+    "not IP or are snapped are left out and counted; padding of the link is cut off. TABLE, IN.pcap and OUT.pcap may be `-'; if OUT.pcap "
+    "is, all else is printed on standard error. OUT.pcap may not be a file that is read."
     "\vExit codes: 0 written; 1 the capture is bad, or the table not sound; 2 wrong usage; 3 the system failed.";
 
 static const struct argp argp = {option_list, parse, "--table TABLE IN.pcap OUT.pcap", words, NULL, NULL, NULL};
@@ -156,9 +164,9 @@ int command_translate(int argc, char **argv)
 {
     struct arguments arguments = {NULL, NULL, NULL, false};
     argp_parse(&argp, argc, argv, 0, NULL, &arguments);
-    if (capture_is_input(arguments.out, arguments.in))
-        return EXIT_USAGE;
     struct run run = {.account = strcmp(arguments.out, "-") == 0 ? stderr : stdout, .trace = arguments.trace};
+    if (output_taken(&arguments, run.account))
+        return EXIT_USAGE;
     int code = stop_load(&run.stop, arguments.table);
     if (code != EXIT_DONE)
         return code;

@@ -9,8 +9,10 @@
 #include "commands.h"
 #include "describe.h"
 #include "file.h"
+#include "fit.h"
 #include "kawsarpa.h"
 #include "progress.h"
+#include "promise.h"
 #include "stop.h"
 
 /* The near gateway, the waypoints, the far gateway. */
@@ -32,13 +34,20 @@ struct trip {
     struct output out;
     FILE *account;
     unsigned long arrived;
-    unsigned long unchanged; /* of those, what carries all that went in */
+    unsigned long unchanged; /* of those, what came out as it has to */
 };
 
 /* A packet on its way. */
 struct parcel {
     const uint8_t *octets;
     size_t length;
+};
+
+/* What left the last stop, nothing after a refusal; and the entries by which it went in and came out, as stop_entry tells them. */
+struct arrival {
+    struct parcel out;
+    const struct kawsarpa_entry *near;
+    const struct kawsarpa_entry *far;
 };
 
 static void say_stop(const struct trip *trip, size_t stop)
@@ -51,10 +60,11 @@ static void say_stop(const struct trip *trip, size_t stop)
         fprintf(trip->account, "  via %zu: ", stop);
 }
 
-/* Sends a packet through every stop. What leaves the last one, or nothing after a refusal. */
-static struct parcel walk(const struct trip *trip, const struct capture_packet *packet)
+/* Sends a packet through every stop. */
+static struct arrival walk(const struct trip *trip, const struct capture_packet *packet)
 {
     static uint8_t buffers[2][STOP_ROOM]; /* what arrives at a stop and what leaves it */
+    struct arrival arrival = {{NULL, 0}, stop_entry(&trip->stops[0], packet->version, packet->octets, packet->length), NULL};
     struct parcel here = {packet->octets, packet->length};
     unsigned int version = packet->version;
     for (size_t i = 0; i < trip->stop_count; i++) {
@@ -64,15 +74,18 @@ static struct parcel walk(const struct trip *trip, const struct capture_packet *
         stop_say_answer(trip->account, answer);
         if (kawsarpa_answer_number(answer) != KAWSARPA_ANSWER_SENT) {
             fputc('\n', trip->account);
-            return (struct parcel){NULL, 0};
+            return arrival;
         }
+        if (i + 1 == trip->stop_count)
+            arrival.far = stop_entry(&trip->stops[i], version, here.octets, here.length);
         here = (struct parcel){sent, kawsarpa_answer_length(answer)};
         version = sent[0] >> 4;
         fputs(": ", trip->account);
         packet_describe(trip->account, here.octets, here.length);
         fputc('\n', trip->account);
     }
-    return here;
+    arrival.out = here;
+    return arrival;
 }
 
 static bool same_address(const struct packet_reading *in, const struct packet_reading *out, const uint8_t *a, const uint8_t *b)
@@ -85,6 +98,8 @@ static bool same_inner(const struct packet_reading *in, const struct packet_read
     return in->inner != NULL && out->inner != NULL && in->inner_length == out->inner_length &&
            memcmp(in->inner, out->inner, in->inner_length) == 0;
 }
+
+static const char changed[] = "  arrived, but not as it went in: ";
 
 /* Says what differs between what went in and what came out; true: nothing. What one of them does not have differs. */
 static bool compare(FILE *to, const struct packet_reading *in, const struct packet_reading *out)
@@ -101,17 +116,40 @@ static bool compare(FILE *to, const struct packet_reading *in, const struct pack
         {"TEID", gtpu && in->teid == out->teid},
         {"QFI", container && in->qfi == out->qfi},
         {"R", container && in->reflective == out->reflective},
+        {"direction", !container || in->pdu_type == out->pdu_type}, /* of a container that is missing QFI and R tell */
         {"traffic class", in->traffic_class == out->traffic_class},
         {"inner octets", same_inner(in, out)},
     };
     unsigned int differing = 0;
     for (size_t i = 0; i < sizeof parts / sizeof parts[0]; i++)
         if (!parts[i].same)
-            fprintf(to, "%s%s", differing++ == 0 ? "  arrived, but not as it went in: " : ", ", parts[i].name);
-    if (differing == 0)
-        fprintf(to, "  arrived with the destination, TEID, QFI, R, traffic class and %zu inner octets that went in", in->inner_length);
-    fputc('\n', to);
+            fprintf(to, "%s%s", differing++ == 0 ? changed : ", ", parts[i].name);
     return differing == 0;
+}
+
+/* The same against the packet that is promised, octet for octet. */
+static bool hold_against(FILE *to, const struct promise *promise, const struct parcel *out)
+{
+    const bool kept = promise_kept(promise, out->octets, out->length);
+    if (!kept) {
+        fputs(changed, to);
+        promise_say_differences(to, promise, out->octets, out->length);
+    }
+    return kept;
+}
+
+/* The line about what came out; true: it is as it went in. Where nothing is promised the parts that the line names are compared. */
+static bool judge(FILE *to, const struct capture_packet *packet, const struct arrival *arrival)
+{
+    static struct promise promise;
+    const struct packet_reading in = packet_read(packet->octets, packet->length);
+    const struct packet_reading out = packet_read(arrival->out.octets, arrival->out.length);
+    const bool promised = promise_make(&promise, &in, arrival->near, arrival->far);
+    const bool same = promised ? hold_against(to, &promise, &arrival->out) : compare(to, &in, &out);
+    if (same)
+        fprintf(to, "  arrived with the destination, TEID, QFI, R, traffic class and %zu inner octets that went in", in.inner_length);
+    fputc('\n', to);
+    return same;
 }
 
 /* One packet's trip; the exit code, not 0 where what came out could not be written. */
@@ -120,14 +158,13 @@ static int send_packet(struct trip *trip, const struct capture_packet *packet)
     fprintf(trip->account, "packet %lu: ", packet->number);
     packet_describe(trip->account, packet->octets, packet->length);
     fputc('\n', trip->account);
-    const struct parcel out = walk(trip, packet);
-    if (out.octets == NULL)
+    const struct arrival arrival = walk(trip, packet);
+    const struct parcel *out = &arrival.out;
+    if (out->octets == NULL)
         return EXIT_DONE;
-    const struct packet_reading went_in = packet_read(packet->octets, packet->length);
-    const struct packet_reading came_out = packet_read(out.octets, out.length);
     trip->arrived++;
-    trip->unchanged += compare(trip->account, &went_in, &came_out);
-    const bool added = trip->out.file == NULL || capture_add(trip->out.file, packet->time, out.octets, out.length);
+    trip->unchanged += judge(trip->account, packet, &arrival);
+    const bool added = trip->out.file == NULL || capture_add(trip->out.file, packet->time, out->octets, out->length);
     return added ? EXIT_DONE : output_fault(&trip->out);
 }
 
@@ -170,11 +207,24 @@ static int trip_into(struct trip *trip, const char *out)
     return code == EXIT_DONE ? say_summary(trip) : code;
 }
 
+/* Whether the tables fit, told before any packet; the trip is made all the same. */
+static void say_fit(const struct trip *trip)
+{
+    const size_t far = trip->stop_count - 1;
+    const struct fit_way way = {&trip->stops[0], &trip->stops[1], far - 1, &trip->stops[far], true};
+    const struct fit fit = fit_judge(&way);
+    fprintf(trip->account, "tables: %u of %u near entries and rules fit\n", fit.fitting, fit.asked);
+    for (unsigned int i = 0; i < fit.record_count; i++)
+        if (fit_record_asked(&fit.records[i]) && !fit_record_fits(&way, &fit.records[i]))
+            fit_say_record(trip->account, &way, &fit.records[i]);
+}
+
 static int trip_capture(struct trip *trip, const struct arguments *arguments)
 {
     int code = capture_open(&trip->reader, arguments->in);
     if (code != EXIT_DONE)
         return code;
+    say_fit(trip);
     code = trip_into(trip, arguments->out);
     capture_close(&trip->reader);
     return code;
@@ -195,6 +245,17 @@ static int add_stops(struct trip *trip, const struct arguments *arguments)
     for (size_t i = 0; code == EXIT_DONE && i < arguments->via_count; i++)
         code = add_stop(trip, arguments->via[i]);
     return code == EXIT_DONE ? add_stop(trip, arguments->far) : code;
+}
+
+/* Whether what is written would replace something that is read, or printed beside it; if so, it is reported. */
+static bool output_taken(const struct arguments *arguments, FILE *account)
+{
+    bool taken = output_is_input(arguments->out, arguments->in, "the capture") ||
+                 output_is_input(arguments->out, arguments->near, "the near table") ||
+                 output_is_input(arguments->out, arguments->far, "the far table");
+    for (size_t i = 0; !taken && i < arguments->via_count; i++)
+        taken = output_is_input(arguments->out, arguments->via[i], "the table of a waypoint");
+    return taken || output_is_stream(arguments->out, account);
 }
 
 static void add_via(struct argp_state *state, struct arguments *arguments, const char *value)
@@ -246,11 +307,21 @@ static const struct argp_option option_list[] = {
 };
 
 static const char words[] =
-    "Sends each IP packet of a capture through all stops of a trip, prints what leaves each, and compares what comes out with what went in. "
-    "IN.pcap is a pcap or pcapng capture of Ethernet, Linux cooked or raw IP. A TABLE, IN.pcap and OUT.pcap may be `-'; if "
-    "OUT.pcap is, all else is printed on standard error."
-    "\vExit codes: 0 every packet arrived with what went in; 1 one did not, the capture is bad, or a table not sound; 2 wrong usage; "
-    "3 the system failed.";
+    "Sends each IP packet of a capture through all stops of a trip, prints what leaves each, and compares what comes out with what went "
+    "in. IN.pcap is a pcap or pcapng capture of Ethernet, Linux cooked or raw IP. A TABLE, IN.pcap and OUT.pcap may be `-'; if "
+    "OUT.pcap is, all else is printed on standard error. OUT.pcap may not be a file that is read."
+    "\vBefore the packets it says how many entries and rules of the near table fit the other tables, and why the rest does not, as "
+    "`kawsarpa match' does; but in order: waypoint n has to fit the n-th --via table, with as many of one as of the other. The trip is "
+    "made all the same, and its exit code is that of the packets alone.\n"
+    "\n"
+    "A packet that goes in at End.M.GTP6.D.Di and comes out at End.M.GTP6.E, or goes in by a rule and comes out at End.M.GTP4.E, is "
+    "compared octet for octet with the one that has to come out: destination, traffic class, TEID, QFI, R, direction and inner octets as "
+    "they went in, over IPv4 the source too; hop limit, UDP source port and over IPv6 the source of the far entry; all else as it is "
+    "always written. One that is not so has arrived changed, and its line says in what: fields, and octets of a header, counted from 0. Of "
+    "other packets the parts that the line names are compared, and the direction.\n"
+    "\n"
+    "Exit codes: 0 every packet arrived with what went in; 1 one did not arrive, or arrived changed, the capture is bad, or a table not "
+    "sound; 2 wrong usage; 3 the system failed.";
 
 static const struct argp argp = {option_list, parse, "--near TABLE [--via TABLE]... --far TABLE IN.pcap", words, NULL, NULL, NULL};
 
@@ -258,10 +329,10 @@ int command_trip(int argc, char **argv)
 {
     struct arguments arguments = {0};
     argp_parse(&argp, argc, argv, 0, NULL, &arguments);
-    if (arguments.out != NULL && capture_is_input(arguments.out, arguments.in))
-        return EXIT_USAGE;
     const bool to_standard_output = arguments.out != NULL && strcmp(arguments.out, "-") == 0;
     struct trip trip = {.account = to_standard_output ? stderr : stdout};
+    if (arguments.out != NULL && output_taken(&arguments, trip.account))
+        return EXIT_USAGE;
     int code = add_stops(&trip, &arguments);
     if (code == EXIT_DONE)
         code = trip_capture(&trip, &arguments);

@@ -193,6 +193,72 @@ static const struct fault_words policy_faults[] = {
     {"the reserved octet is not 0", "The table was made for another version of the library, or was damaged: compile it again.", NULL},
 };
 
+/* By condition. */
+static const struct mismatch_words mismatches[] = {
+    [KAWSARPA_MISMATCH_NEAR_UNSOUND] =
+    {"The near table breaks a condition of its own, so that the near gateway refuses every packet with 1.",
+     "Run `kawsarpa check TABLE' on it; it names the record and the condition."},
+    [KAWSARPA_MISMATCH_FAR_UNSOUND] =
+    {"The far table breaks a condition of its own, so that the far gateway refuses every packet with 1.",
+     "Run `kawsarpa check TABLE' on it; it names the record and the condition."},
+    [KAWSARPA_MISMATCH_NO_RECORD] =
+    {"The near table has no entry, or over IPv4 no rule, of the index that was asked for. Indices count from 0.",
+     "Only a program that calls the library can see this: it asks past the counts in the table's header."},
+    [KAWSARPA_MISMATCH_NOT_DI] =
+    {"The near entry that was asked for is not End.M.GTP6.D.Di, and no other behaviour has its far end in an End.M.GTP6.E entry.",
+     "Only a program that calls the library can see this. If the entry was meant to be End.M.GTP6.D.Di, mend `behaviour' in the near "
+     "table."},
+    [KAWSARPA_MISMATCH_NO_ENTRY] =
+    {"No prefix of the far table covers the SIDs that the near record sends, whatever a packet brings: the far gateway refuses its packets "
+     "with 4.",
+     "Compare `last-sid' of the near policy, or `sid-prefix' of the near rule, with the prefixes of the far table. Or that is the table of "
+     "another box."},
+    [KAWSARPA_MISMATCH_KIND] =
+    {"The longest prefix of the far table that some of the near record's SIDs come under is not End.M.GTP6.E's, after a rule not "
+     "End.M.GTP4.E's: such packets are refused, or sent on as something else. It may be so for some TEIDs alone.",
+     "Look at that far entry. If its prefix is short, the right entry is missing; if it is longer than the right entry's, it lies among "
+     "the SIDs of that one, and has to go elsewhere."},
+    [KAWSARPA_MISMATCH_DIRECTION] =
+    {"The near gateway takes packets of one direction, and the far gateway sends them on as packets of the other.",
+     "Set `direction' at both ends to that of the packets: downlink from UPF to radio, uplink from radio to UPF."},
+    [KAWSARPA_MISMATCH_SESSION] =
+    {"The far gateway expects another kind of inner packet than the near one sends, and refuses with 8 what does not suit it.",
+     "Set `session-type' at both ends to that of the sessions."},
+    [KAWSARPA_MISMATCH_START] =
+    {"The far gateway reads Args where the near one did not write them. Nothing is refused; packets leave with another TEID, QFI and R.",
+     "Set `args-octet' of the near policy and of the far entry to the same octet."},
+    [KAWSARPA_MISMATCH_P] =
+    {"The far gateway reads the IPv4 destination and Args where the near one did not write them. Nothing is refused; packets leave for "
+     "another address, with another TEID.",
+     "Set `p' of the near rule and of the far entry to the same number."},
+    [KAWSARPA_MISMATCH_Q] =
+    {"The far gateway reads the IPv4 source where the near one did not write it. Nothing is refused; packets leave with another source.",
+     "Set `q' of the near rule and of the far entry to the same number."},
+    [KAWSARPA_MISMATCH_HOP_LIMIT] =
+    {"Every waypoint takes 1 from the hop limit, and passes no packet on that arrives with 0 or 1: one of them refuses everything with 6.",
+     "Raise `hop-limit' of the near entry or rule above the number of its waypoints, and by the routers between them; 64 is usual."},
+    [KAWSARPA_MISMATCH_WAYPOINT_UNSOUND] =
+    {"The waypoint's table breaks a condition of its own, so that it refuses every packet with 1.",
+     "Run `kawsarpa check TABLE' on it; it names the record and the condition."},
+    [KAWSARPA_MISMATCH_WAYPOINT_SID] =
+    {"The SID that was asked for has not 16 octets.",
+     "Only a program that calls the library can see this: it lends a SID of another length."},
+    [KAWSARPA_MISMATCH_WAYPOINT_NO_ENTRY] =
+    {"No prefix of the waypoint's table covers the SID that leads there: the waypoint refuses the packets with 4.",
+     "Compare the waypoint's address in the near table with the prefixes of the waypoint's table. Or a --via table was left out, or is "
+     "that of another box."},
+    [KAWSARPA_MISMATCH_WAYPOINT_KIND] =
+    {"The longest prefix of the waypoint's table that covers the SID is not an End entry's: a gateway's entry takes the packets for its "
+     "own, and refuses most with 7.",
+     "Give the waypoint's address an End entry with a longer prefix, or shorten the other one; or mend the address in the near table."},
+};
+
+const struct mismatch_words *mismatch_words(unsigned int condition)
+{
+    const bool known = condition < sizeof mismatches / sizeof mismatches[0] && mismatches[condition].means != NULL;
+    return known ? &mismatches[condition] : NULL;
+}
+
 static const struct {
     const char *name;
     const struct fault_words *faults;

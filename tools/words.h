@@ -40,6 +40,15 @@ struct fault_words {
 /* NULL for what is no condition of the record. */
 const struct fault_words *fault_words(unsigned int record, unsigned int condition);
 
+/* What it means where a condition of tables that fit fails. The condition's name is kawsarpa_mismatch_name's. */
+struct mismatch_words {
+    const char *means;
+    const char *next;
+};
+
+/* NULL for what is no condition. */
+const struct mismatch_words *mismatch_words(unsigned int condition);
+
 /* "header", "entry", "rule" or "policy". */
 const char *record_name(unsigned int record);
 

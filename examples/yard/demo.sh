@@ -1,6 +1,6 @@
 #!/usr/bin/env bash
-# demo.sh TOOL: the yard's tables compiled, its captures made, sent through whole trips, and searched for what was lost. Prints each
-# command before what it says.
+# demo.sh TOOL: the yard's tables compiled and held against each other, its captures made, sent through whole trips, and searched for what
+# was lost. Prints each command before what it says.
 set -eu -o pipefail
 
 if [ $# -ne 1 ]; then
@@ -40,6 +40,16 @@ for name in office gate mast crane; do
     step 0 kawsarpa compile $name.yaml -o $name
 done
 
+title "Do these tables belong together? All that is sent on at either end, without a packet"
+step 0 kawsarpa match --near office --via gate --via mast --far crane --both
+
+title "And with Args an octet later in the crane's entry? Each table is sound by itself, but they do not belong together"
+echo "\$ sed '/^entries/,\$s/args-octet: 8/args-octet: 9/' crane.yaml >crane-9.yaml"
+sed '/^entries/,$s/args-octet: 8/args-octet: 9/' crane.yaml >crane-9.yaml
+step 0 kawsarpa compile crane-9.yaml -o crane-9
+step 0 kawsarpa check crane-9 | sed '3s/.*/.../; 4,$d'
+step 1 kawsarpa match --near office --via gate --via mast --far crane-9 --both
+
 title "The captures: Ethernet frames seen beside the UPF and beside the radio"
 python3 "$yard/make-capture.py" .
 ls -- *.pcap
@@ -49,6 +59,10 @@ step 0 kawsarpa translate --table office --trace downlink.pcap left-office.pcap
 
 title "The whole trip, from the office to the crane. The exit code is 1, since the End Marker does not arrive"
 step 1 kawsarpa trip --near office --via gate --via mast --far crane downlink.pcap -o arrived.pcap
+
+title "The same with the crane's other table: nothing more is refused, and flow 5 leaves with another TEID and QFI"
+step 1 kawsarpa trip --near office --via gate --via mast --far crane-9 downlink.pcap |
+    sed '/^packet 2: /,/^frames/{/^packet 2: /s/.*/.../; /^\.\.\.$/!{/^frames/!d}}'
 
 title "And back: what the machines answer"
 step 0 kawsarpa trip --near crane --via mast --via gate --far office uplink.pcap

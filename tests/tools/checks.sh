@@ -1,5 +1,6 @@
 # shellcheck shell=bash
-# For captures.sh and loss.sh: runs of the tool, their first argument, in a work directory, and what is expected of a run.
+# For captures.sh, promise.sh, safety.sh, loss.sh and match.sh: runs of the tool, their first argument, in a work directory, and what is
+# expected of a run.
 
 tool=$(realpath "$1")
 work=$(mktemp -d)
@@ -27,6 +28,22 @@ run() { # CODE ARGUMENT...
 # A line of the last run's standard output, or of its errors.
 printed() { # TEXT
     grep -qxF -- "$1" "$work/stdout" || fail "not printed: $1"
+    checks=$((checks + 1))
+}
+
+# All of the last run's standard output, or of its errors, is what stands on standard input.
+all_printed() {
+    diff - "$work/stdout" >&2 || fail "other words are expected"
+    checks=$((checks + 1))
+}
+
+all_complained() {
+    diff - "$work/stderr" >&2 || fail "other messages are expected"
+    checks=$((checks + 1))
+}
+
+nothing_printed() {
+    [ ! -s "$work/stdout" ] || fail "something is printed"
     checks=$((checks + 1))
 }
 

@@ -11,22 +11,6 @@ yard=$here/../../examples/yard
 # shellcheck source=tests/tools/checks.sh
 . "$here/checks.sh"
 
-# All of the last run's standard output, or of its errors, is what stands on standard input.
-all_printed() {
-    diff - "$work/stdout" >&2 || fail "other words are expected"
-    checks=$((checks + 1))
-}
-
-all_complained() {
-    diff - "$work/stderr" >&2 || fail "other messages are expected"
-    checks=$((checks + 1))
-}
-
-nothing_printed() {
-    [ ! -s "$work/stdout" ] || fail "something is printed"
-    checks=$((checks + 1))
-}
-
 refused() { # CODE CAPTURE TEXT
     run "$1" loss "$work/$2"
     complained "$3"

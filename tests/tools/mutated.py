@@ -3,7 +3,8 @@ packets mutated in sound ones.
 
 TOOL is best built with the sanitizers. OFFICE to CRANE are the yard's tables, EVERYWHERE one that leads every address to End.M.GTP6.D or to
 a rule, CAPTURES a directory that captures.py and the yard's make-capture.py have filled. Every run has to end with an exit code of the
-list, quietly, and to leave its output exactly when it says so. What loss does not count has no S, or translate refuses it by EVERYWHERE.
+list, quietly, and to leave its output exactly when it says so. What arrives is as it went in, since the yard's tables fit. What loss does
+not count has no S, or translate refuses it by EVERYWHERE.
 """
 
 import random
@@ -112,7 +113,9 @@ def main() -> None:
             commands = [translate, trip, by_everywhere, loss]
             results = [run(arguments, [0, 1], out) for arguments in commands]
             faults = [f"{arguments[1]}: {fault}" for arguments, (fault, _) in zip(commands, results) if fault]
-            refused, report = results[2][1], results[3][1]
+            travelled, refused, report = (printed for _, printed in results[1:])
+            if "arrived, but not" in travelled:
+                faults.append("trip: a packet arrived changed")
             if refusals(report) != refusals(refused):
                 faults.append(f"loss: reasons {refusals(report)}, not {refusals(refused)}")
             if not accounted(report):

@@ -60,7 +60,8 @@ octet() { # FILE OFFSET VALUE: changes one octet
 
 expect 0 'Commands:' --help
 expect 0 'Exit codes: 0 done; 1' --help
-expect 0 'kawsarpa 1' --version
+expect 0 ', table format 1' --version
+expect 0 "proofs checked with $(cat "$here/../../rt.version")" --version
 for command in compile show check explain; do
     expect 0 'Exit codes: 0' "$command" --help
     expect 2 'needed' "$command"

@@ -1,0 +1,118 @@
+#include "fit.h"
+
+#include <string.h>
+
+#include "table.h"
+
+/* The answer of the table that the waypoint fits; else of one where an entry of another kind matches; else of any. */
+static struct fit_waypoint judge_waypoint(const struct fit_way *way, unsigned int place, const uint8_t sid[16])
+{
+    struct fit_waypoint found = {sid, NULL, 0};
+    const size_t first = way->in_order ? place : 0;
+    const size_t end = way->in_order ? place + 1U : way->via_count;
+    for (size_t i = first; i < end && (found.via == NULL || found.mismatch != 0); i++) {
+        const struct stop *via = &way->vias[i];
+        const uint64_t mismatch = kawsarpa_call_match_waypoint(via->table.at, via->table.count, sid, 16);
+        if (found.via == NULL || mismatch == 0 ||
+            (kawsarpa_mismatch_condition(mismatch) == KAWSARPA_MISMATCH_WAYPOINT_KIND &&
+             kawsarpa_mismatch_condition(found.mismatch) != KAWSARPA_MISMATCH_WAYPOINT_KIND))
+            found = (struct fit_waypoint){sid, via, mismatch};
+    }
+    return found;
+}
+
+static void judge_waypoints(const struct fit_way *way, struct fit_record *record, const uint8_t sids[][16], unsigned int count)
+{
+    record->waypoint_count = count;
+    if (way->in_order && count != way->via_count)
+        return;
+    for (unsigned int i = 0; i < count; i++)
+        record->waypoints[i] = judge_waypoint(way, i, sids[i]);
+}
+
+/* The far entry of the mismatch. A record that fits leads to one entry with every SID that it sends, and that is no waypoint: so the
+   library is asked which entry takes one of these SIDs. */
+static unsigned int reached(const struct fit_way *way, uint64_t mismatch, const uint8_t sid[16])
+{
+    const struct octets *far = &way->far->table;
+    return kawsarpa_mismatch_index(mismatch != 0 ? mismatch : kawsarpa_call_match_waypoint(far->at, far->count, sid, 16));
+}
+
+static void judge_entry(const struct fit_way *way, const struct table_records *near, struct fit_record *record)
+{
+    const struct kawsarpa_entry *entry = &near->entries[record->index];
+    const struct kawsarpa_policy *policy = &near->policies[entry->policy];
+    const unsigned int last = policy->sid_count - 1U;
+    record->has_far = entry->behaviour == KAWSARPA_BEHAVIOUR_END_M_GTP6_D_DI;
+    if (record->has_far) {
+        uint8_t sid[16];
+        memcpy(sid, policy->sids[last], sizeof sid);
+        memset(sid + policy->args_start / 8, 0, FIT_ARGS_OCTETS);
+        record->mismatch = kawsarpa_call_match_ipv6(way->near->table.at, way->near->table.count, record->index, way->far->table.at,
+                                                    way->far->table.count);
+        record->reached = reached(way, record->mismatch, sid);
+    }
+    judge_waypoints(way, record, policy->sids, last);
+}
+
+static void judge_rule(const struct fit_way *way, const struct table_records *near, struct fit_record *record)
+{
+    const struct kawsarpa_rule *rule = &near->rules[record->index];
+    uint8_t sid[16];
+    memcpy(sid, rule->sid_prefix, sizeof sid);
+    memcpy(sid + rule->p, rule->prefix, sizeof rule->prefix);
+    record->has_far = true;
+    record->mismatch = kawsarpa_call_match_ipv4(way->near->table.at, way->near->table.count, record->index, way->far->table.at,
+                                                way->far->table.count);
+    record->reached = reached(way, record->mismatch, sid);
+    judge_waypoints(way, record, rule->waypoints, rule->waypoint_count);
+}
+
+bool fit_record_asked(const struct fit_record *record)
+{
+    return record->has_far || record->waypoint_count != 0;
+}
+
+bool fit_record_fits(const struct fit_way *way, const struct fit_record *record)
+{
+    if (record->mismatch != 0 || (way->in_order && record->waypoint_count != way->via_count))
+        return false;
+    for (unsigned int i = 0; i < record->waypoint_count; i++)
+        if (record->waypoints[i].via == NULL || record->waypoints[i].mismatch != 0)
+            return false;
+    return true;
+}
+
+static void add(struct fit *fit, const struct fit_way *way, const struct fit_record *record)
+{
+    fit->records[fit->record_count++] = *record;
+    if (!fit_record_asked(record))
+        return;
+    fit->asked++;
+    fit->fitting += fit_record_fits(way, record);
+    fit->waypoints_only += !record->has_far;
+}
+
+static bool sends_on(const struct kawsarpa_entry *entry)
+{
+    return entry->behaviour == KAWSARPA_BEHAVIOUR_END_M_GTP6_D || entry->behaviour == KAWSARPA_BEHAVIOUR_END_M_GTP6_D_DI;
+}
+
+struct fit fit_judge(const struct fit_way *way)
+{
+    const struct table_records near = table_records(&way->near->table);
+    struct fit fit = {.record_count = 0};
+    for (unsigned int i = 0; i < near.entry_count; i++) {
+        struct fit_record record = {.kind = KAWSARPA_RECORD_ENTRY, .index = i};
+        if (!sends_on(&near.entries[i]))
+            continue;
+        judge_entry(way, &near, &record);
+        add(&fit, way, &record);
+    }
+    for (unsigned int i = 0; i < near.rule_count; i++) {
+        struct fit_record record = {.kind = KAWSARPA_RECORD_RULE, .index = i};
+        judge_rule(way, &near, &record);
+        add(&fit, way, &record);
+    }
+    return fit;
+}

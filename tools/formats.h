@@ -1,0 +1,15 @@
+/* Sizes in octets and numbers of the headers that the tool reads and writes: IPv4, IPv6 (RFC 8200), UDP, GTP-U (TS 29.281). */
+#ifndef FORMATS_H
+#define FORMATS_H
+
+/* Without IPv4 options; of GTP-U the part that is always there, and what follows it where a flag is set. */
+enum { IPV4_HEADER = 20, IPV6_HEADER = 40, UDP_HEADER = 8, GTPU_HEADER = 8, GTPU_OPTIONAL = 4 };
+
+enum { NEXT_UDP = 17, GTPU_PORT = 2152 };
+
+/* GTP-U message types, and the extension that holds the PDU Session container. */
+enum { ECHO_REQUEST = 1, ECHO_RESPONSE = 2, ERROR_INDICATION = 26, END_MARKER = 254, G_PDU = 255 };
+
+enum { EXTENSION_CONTAINER = 0x85 };
+
+#endif

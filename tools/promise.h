@@ -1,0 +1,34 @@
+/* The packet that has to come out of a trip (docs/STATEMENTS.md, demand 3), put together here from what went in and from the entry of the
+   far gateway, and how a packet that came out differs from it. */
+#ifndef PROMISE_H
+#define PROMISE_H
+
+#include <stdbool.h>
+#include <stddef.h>
+#include <stdint.h>
+#include <stdio.h>
+
+#include "describe.h"
+#include "kawsarpa.h"
+#include "stop.h"
+
+struct promise {
+    uint8_t octets[STOP_ROOM];
+    size_t length;
+};
+
+/*
+ * Puts the packet together: what went in, a packet that the near gateway has sent on, and the entries that both gateways went by, as
+ * stop_entry tells them. False where there is no promise: it is made of a G-PDU from End.M.GTP6.D.Di to End.M.GTP6.E, and from a rule to
+ * End.M.GTP4.E.
+ */
+bool promise_make(struct promise *promise, const struct packet_reading *in, const struct kawsarpa_entry *near,
+                  const struct kawsarpa_entry *far);
+
+/* Whether a packet is the promised one, octet for octet. */
+bool promise_kept(const struct promise *promise, const uint8_t *packet, size_t length);
+
+/* Names what differs in a packet that is not: fields, then the other octets of the headers, each counted from 0 in its header. */
+void promise_say_differences(FILE *to, const struct promise *promise, const uint8_t *packet, size_t length);
+
+#endif
