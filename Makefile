@@ -4,7 +4,7 @@ SHELL := bash
 .SHELLFLAGS := -eu -o pipefail -c
 .DELETE_ON_ERROR:
 .NOTPARALLEL:
-.PHONY: all prove test ci toolchain tools format refusers second staticlib library programs boundary fuzz mutants peers tool tool-test demo demo-packages bench bench-proofs bench-packages clean
+.PHONY: all prove test ci toolchain tools format refusers second staticlib library programs boundary fuzz mutants peers tool tool-test install-test install uninstall demo demo-packages bench bench-proofs bench-packages clean
 
 archive := target/staticlib/libkawsarpa.a
 second := tests/second/target/release/second
@@ -17,7 +17,7 @@ prove: toolchain
 	rt check
 
 # Everything. The library is built from what `rt ci` proved, so that is first; its count of what passed is said again at the end.
-test: toolchain tools format second ci refusers library programs boundary tool-test
+test: toolchain tools format second ci refusers library programs boundary tool-test install-test
 	@tail -n 1 target/ci.log
 
 # every proof from nothing, and the must-fail edits; `rt ci` removes target/, so its output goes there afterwards
@@ -46,7 +46,7 @@ endef
 
 # what the tests beside the proofs need
 tools:
-	$(call install,gcc:gcc g++:g++ nm:binutils cargo:cargo valgrind:valgrind $(tool_needs))
+	$(call install,gcc:gcc g++:g++ nm:binutils cargo:cargo valgrind:valgrind mandoc:mandoc pkg-config:pkg-config $(tool_needs))
 
 # the layout of the sources, and that what the documents list is there
 format:
@@ -97,19 +97,28 @@ mutants: tools staticlib
 tool_needs := /usr/include/cyaml/cyaml.h:libcyaml-dev /usr/include/yaml.h:libyaml-dev /usr/include/pcap.h:libpcap-dev \
   clang-tidy:clang-tidy python3:python3
 tool_sources := $(wildcard tools/*.c)
-tool_flags := -std=c11 -D_GNU_SOURCE -g -Wall -Wextra -Wpedantic -Wshadow -Wconversion -Werror -I include
+tool_flags := -std=c11 -D_GNU_SOURCE -g -Wall -Wextra -Wpedantic -Wshadow -Wconversion -Werror -I include \
+  -DTOOLCHAIN='"$(shell cat rt.version)"' -ffile-prefix-map=$(CURDIR)=.
 tool_libraries := -lcyaml -lyaml -lpcap
 sanitizers := -fsanitize=address,undefined -fno-sanitize-recover=all
 
 tool: tools staticlib target/tools/kawsarpa target/tools/kawsarpa-asan
 
-$(archive): | staticlib ;
+# where it is missing; `staticlib` brings it up to date
+$(archive):
+	$(MAKE) --no-print-directory staticlib
+
+target/tools/plain/main.o target/tools/asan/main.o: rt.version
 
 target/tools/kawsarpa: $(tool_sources:tools/%.c=target/tools/plain/%.o) $(archive)
 	gcc -o $@ $^ $(tool_libraries)
 
 target/tools/kawsarpa-asan: $(tool_sources:tools/%.c=target/tools/asan/%.o) $(archive)
 	gcc $(sanitizers) -o $@ $^ $(tool_libraries)
+
+# the same with a library that errs, for the test of what `kawsarpa trip` compares
+target/tools/kawsarpa-flipped: $(tool_sources:tools/%.c=target/tools/asan/%.o) tests/tools/flip.c $(archive)
+	gcc $(tool_flags) $(sanitizers) -O1 -Wl,--wrap=kawsarpa_translate_ipv6 -o $@ $^ $(tool_libraries)
 
 target/tools/plain/%.o: tools/%.c $(wildcard tools/*.h) include/kawsarpa.h
 	@mkdir -p $(@D)
@@ -120,14 +129,64 @@ target/tools/asan/%.o: tools/%.c $(wildcard tools/*.h) include/kawsarpa.h
 	gcc $(tool_flags) $(CPPFLAGS) $(sanitizers) -O1 -c -o $@ $<
 
 # the tool's sources read by clang-tidy, and its commands driven, with the sanitizers
-tool-test: tool second
+tool-test: tool target/tools/kawsarpa-flipped second
 	clang-tidy --quiet $(tool_sources) -- $(tool_flags) $(CPPFLAGS) 2>&1 | sed '/^[0-9]* warnings generated\.$$/d' # those of system headers
 	tests/tools/tables.sh target/tools/kawsarpa-asan $(second)
 	tests/tools/captures.sh target/tools/kawsarpa-asan
+	tests/tools/promise.sh target/tools/kawsarpa-asan target/tools/kawsarpa-flipped
+	tests/tools/safety.sh target/tools/kawsarpa-asan
 	tests/tools/loss.sh target/tools/kawsarpa-asan
+	tests/tools/match.sh target/tools/kawsarpa-asan
 	python3 docs/trip.py | cmp - docs/trip.svg
 
-# the yard example: tables compiled, captures sent through whole trips; root is needed only where a package is missing
+# what is installed, in a directory of its own: files, a C program that finds the library, manual pages, completion
+install-test: tool
+	tests/install/run.sh
+	tests/install/pages.sh target/tools/kawsarpa $(archive)
+	tests/install/completion.sh target/tools/kawsarpa
+
+# Installs tool, library, header, manual pages and completion under PREFIX; with DESTDIR into a tree of its own, which needs no root. What
+# is missing is built. The library that is there is installed as it is: `make staticlib` brings it up to date, and needs the toolchain.
+PREFIX ?= /usr/local
+prefix = $(PREFIX)
+exec_prefix = $(prefix)
+bindir = $(exec_prefix)/bin
+includedir = $(prefix)/include
+libdir = $(exec_prefix)/lib
+pkgconfigdir = $(libdir)/pkgconfig
+datarootdir = $(prefix)/share
+mandir = $(datarootdir)/man
+bashcompletiondir = $(datarootdir)/bash-completion/completions
+
+install_directories = "$(bindir)" "$(includedir)" "$(libdir)" "$(pkgconfigdir)" "$(mandir)"/man{1,3,5} "$(bashcompletiondir)"
+install_files = "$(bindir)/kawsarpa" "$(includedir)/kawsarpa.h" "$(libdir)/libkawsarpa.a" "$(pkgconfigdir)/kawsarpa.pc" \
+  "$(mandir)"/{man1/kawsarpa.1,man3/kawsarpa.3,man5/kawsarpa-table.5} "$(bashcompletiondir)/kawsarpa"
+
+# the version in the header, and a directory as kawsarpa.pc says it
+version = $(shell sed -n 's/^\#define KAWSARPA_VERSION_[A-Z]* \([0-9][0-9]*\)$$/\1/p' include/kawsarpa.h | paste -sd.)
+under_prefix = $(patsubst $(prefix)/%,$${prefix}/%,$(1))
+
+install: $(if $(wildcard target/tools/kawsarpa),,demo-packages) $(archive) target/tools/kawsarpa
+	for directory in $(install_directories); do install -d "$(DESTDIR)$$directory"; done
+	install -m 755 target/tools/kawsarpa "$(DESTDIR)$(bindir)/kawsarpa"
+	install -m 644 include/kawsarpa.h "$(DESTDIR)$(includedir)/kawsarpa.h"
+	install -m 644 $(archive) "$(DESTDIR)$(libdir)/libkawsarpa.a"
+	sed -e 's|@version@|$(version)|' -e 's|@prefix@|$(prefix)|' -e 's|@includedir@|$(call under_prefix,$(includedir))|' \
+	  -e 's|@libdir@|$(call under_prefix,$(libdir))|' packaging/kawsarpa.pc.in | \
+	  install -m 644 /dev/stdin "$(DESTDIR)$(pkgconfigdir)/kawsarpa.pc"
+	for page in kawsarpa.1 kawsarpa.3 kawsarpa-table.5; do \
+	  sed 's|@version@|$(version)|' man/$$page | install -m 644 /dev/stdin "$(DESTDIR)$(mandir)/man$${page##*.}/$$page"; \
+	done
+	install -m 644 packaging/kawsarpa.bash "$(DESTDIR)$(bashcompletiondir)/kawsarpa"
+
+# Removes these files. In a DESTDIR the directories go with them where they are empty then; elsewhere they may be the system's, and stay.
+uninstall:
+	for file in $(install_files); do rm -f "$(DESTDIR)$$file"; done
+	[ -z "$(DESTDIR)" ] || for directory in $(install_directories); do \
+	  [ ! -d "$(DESTDIR)$$directory" ] || (cd "$(DESTDIR)" && rmdir -p --ignore-fail-on-non-empty -- "$${directory#/}"); \
+	done
+
+# the yard example: tables compiled and matched, captures sent through whole trips; root is needed only where a package is missing
 demo: demo-packages staticlib target/tools/kawsarpa
 	@examples/yard/demo.sh target/tools/kawsarpa
 
