@@ -46,7 +46,16 @@ use-waypoints (s ∷ ss) (t ∷ ts) [] u w = absurd w
 use-waypoints (s ∷ ss) (t ∷ ts) (sid ∷ sids) u w =
     let (i, f) = w .0 in
     let q = u .0 .1 in (
-      (i, record { call = u .0 .0; octets = rw q (u .0 .2); sound = rw q (f .tableSound); matches = rw q (f .matches); kind = rw q (f .kind) }),
+      (
+        i,
+        record {
+          call = u .0 .0;
+          octets = rw q (u .0 .2);
+          sound = rw q (f .tableSound);
+          matches = rw q (f .matches);
+          kind = rw q (f .kind);
+        },
+      ),
       use-waypoints ss ts sids (u .1) (w .1),
     )
 
@@ -104,7 +113,8 @@ module _ (near : Stop) (ss : List Stop) (far : Stop) (ws : List (List ℕ)) (i j
         octets = octets-window (datagramIn6 p) 12 4 (octets-drop p (header p .upperAt) o);
       }
 
-  pub matching6 : Room near ss far (length (diPacket (entryAt (near .table) i) (policyOf near i) (carried6 p))) (length (e6Packet (entryAt (far .table) j) (carried6 p)))
+  pub matching6 : Room near ss far (length (diPacket (entryAt (near .table) i) (policyOf near i) (carried6 p)))
+      (length (e6Packet (entryAt (far .table) j) (carried6 p)))
       → Matching6 near ss far p i j
   matching6 room = record {
     octets = o;
@@ -112,7 +122,13 @@ module _ (near : Stop) (ss : List Stop) (far : Stop) (ws : List (List ℕ)) (i j
     sent = (x, sent);
     enters = enters6;
     passes = passes6;
-    leaves = record { call = vf; octets = of; sound = c .fits .farSound; matches = c .fits .matches (carried6 p .args) writable6; kind = c .fits .leaves };
+    leaves = record {
+      call = vf;
+      octets = of;
+      sound = c .fits .farSound;
+      matches = c .fits .matches (carried6 p .args) writable6;
+      kind = c .fits .leaves;
+    };
     hopLimit = rw (as-many ss (Policy.waypoints (policyOf near i)) passes6) (c .fits .hopLimit);
     direction = c .fits .direction;
     session = c .fits .session;
@@ -149,13 +165,18 @@ module _ (near : Stop) (ss : List Stop) (far : Stop) (ws : List (List ℕ)) (k j
 
   under4 : Under (ruleAt (near .table) k) (carried4 p .destination)
   unfolding carried4 carriedBy
-  under4 = record { size = window-length p 16 4; octets = octets-window p 16 4 o; under = matched-rule (near .table) (Ipv4.destination p) k m .hit }
+  under4 = record {
+    size = window-length p 16 4;
+    octets = octets-window p 16 4 o;
+    under = matched-rule (near .table) (Ipv4.destination p) k m .hit;
+  }
 
   leaves4 : matchEntry (far .table) (d4Sid (ruleAt (near .table) k) (carried4 p)) ≡ At j
   unfolding d4Sid
   leaves4 = c .fits .matches (carried4 p .destination) (carried4 p .args) under4 writable4
 
-  pub matching4 : Room near ss far (length (d4Packet (ruleAt (near .table) k) (carried4 p))) (length (e4Packet (entryAt (far .table) j) (carried4 p)))
+  pub matching4 : Room near ss far (length (d4Packet (ruleAt (near .table) k) (carried4 p)))
+      (length (e4Packet (entryAt (far .table) j) (carried4 p)))
       → Matching4 near ss far p k j
   matching4 room = record {
     octets = o;

@@ -44,7 +44,8 @@ all-fit (t ∷ ts) (sid ∷ sids) n = (mismatch-fits-waypoint t sid (n .0), all-
 abbrev pub DeliversAll6 : (near : Stop) (ss : List Stop) (far : Stop) (i j : ℕ) → Type 0
 DeliversAll6 near ss far i j =
     (p : List ℕ) → Octets p → matchEntry (near .table) (Ipv6.destination p) ≡ At i → (x : List ℕ) → call near p ≡ Sent x
-    → Room near ss far (length (diPacket (entryAt (near .table) i) (policyOf near i) (carried6 p))) (length (e6Packet (entryAt (far .table) j) (carried6 p)))
+    → Room near ss far (length (diPacket (entryAt (near .table) i) (policyOf near i) (carried6 p)))
+    (length (e6Packet (entryAt (far .table) j) (carried6 p)))
     → Delivers6 near ss far p i j
 
 -- the same at rule k
@@ -60,12 +61,14 @@ module _ (near : Stop) (ss : List Stop) (far : Stop) (ws : List (List ℕ)) (on 
       → NoMismatches ws (Policy.waypoints (policyOf near i)) → (j : ℕ) × DeliversAll6 near ss far i j
   no-mismatch-delivers6 i vn h n =
       let (j, f) = mismatch6-fits (near .table) (far .table) i on of h in
-      let c : Compatible6 (near .table) ws (far .table) i j = record { fits = f; passes = all-fit ws (Policy.waypoints (policyOf near i)) n } in
+      let c : Compatible6 (near .table) ws (far .table) i j =
+      record { fits = f; passes = all-fit ws (Policy.waypoints (policyOf near i)) n } in
       (j, λ p o m x s room. demand3-ipv6 near ss far p i j (matching6 near ss far ws i j c on of vn us vf p o m x s room))
 
   pub no-mismatch-delivers4 : (k : ℕ) → near .version ≡ v4 → mismatch4 (near .table) (far .table) k ≡ 0
       → NoMismatches ws (Rule.waypoints (ruleAt (near .table) k)) → (j : ℕ) × DeliversAll4 near ss far k j
   no-mismatch-delivers4 k vn h n =
       let (j, f) = mismatch4-fits (near .table) (far .table) k on of h in
-      let c : Compatible4 (near .table) ws (far .table) k j = record { fits = f; passes = all-fit ws (Rule.waypoints (ruleAt (near .table) k)) n } in
+      let c : Compatible4 (near .table) ws (far .table) k j =
+      record { fits = f; passes = all-fit ws (Rule.waypoints (ruleAt (near .table) k)) n } in
       (j, λ p o m x s room. demand3-ipv4 near ss far p k j (matching4 near ss far ws k j c on of vn us vf p o m x s room))

@@ -92,15 +92,16 @@ module _ (near far : List ℕ) (i : ℕ) (on : Octets near) (of : Octets far) wh
       let kind = eqb-true (Entry.behaviour f) endMGtp6E h₆ in
       let start : Entry.start f ≡ Policy.start y = eqb-true _ _ h₉ in
       let q : SoundE6 f =
-      sound-e6 (policies far) f (sound-parts entryLimit far sf .entry j (reach6-below far (Entry.direction e) (Policy.lastSid y) (Policy.start y) j r)) kind in
+      sound-e6 (policies far) f
+      (sound-parts entryLimit far sf .entry j (reach6-below far (Entry.direction e) (Policy.lastSid y) (Policy.start y) j r)) kind in
       let p = di-policy near i sn l k in
       record {
         nearSound = sn;
         farSound = sf;
         exists = l;
         enters = k;
-        matches = reach-matches6 far (Entry.direction e) (Policy.lastSid y) (Policy.start y) of sf (sid-octets near on i) (sid-size near on i)
-            (p .start) (p .whole) j r (rw (← start) (q .before));
+        matches = reach-matches6 far (Entry.direction e) (Policy.lastSid y) (Policy.start y) of sf (sid-octets near on i)
+            (sid-size near on i) (p .start) (p .whole) j r (rw (← start) (q .before));
         leaves = kind;
         direction = eqb-true _ _ h₇;
         session = eqb-true _ _ h₈;
@@ -117,7 +118,8 @@ module _ (near far : List ℕ) (i : ℕ) (on : Octets near) (of : Octets far) wh
       let (h₂, b₂) = holds (sound far) 1 _ b₁ in
       let (h₃, b₃) = holds (ltb i (entries near)) 2 _ b₂ in
       let (h₄, b₄) = holds (eqb (Entry.behaviour e) endMGtp6DDi) 3 _ b₃ in
-      let (j, (r, b)) = reached-fits (λ j. between6 e y (entryAt far j)) (reach6 far (Entry.direction e) (Policy.lastSid y) (Policy.start y)) b₄ in
+      let (j, (r, b)) =
+      reached-fits (λ j. between6 e y (entryAt far j)) (reach6 far (Entry.direction e) (Policy.lastSid y) (Policy.start y)) b₄ in
       (j, between-fits6 j h₁ h₂ (ltb-true _ _ h₃) (eqb-true _ _ h₄) r b)
 
   pub fits-mismatch6 : (j : ℕ) → Fits6 near far i j → mismatch6 near far i ≡ 0
@@ -127,8 +129,8 @@ module _ (near far : List ℕ) (i : ℕ) (on : Octets near) (of : Octets far) wh
       let y = policyIn near i in
       let p = di-policy near i (f .nearSound) (f .exists) (f .enters) in
       let r : reach6 far (Entry.direction e) (Policy.lastSid y) (Policy.start y) ≡ At j =
-      matches-reach6 far (Entry.direction e) (Policy.lastSid y) (Policy.start y) of (f .farSound) (sid-octets near on i) (sid-size near on i) (p .start) j
-      (f .matches) in
+      matches-reach6 far (Entry.direction e) (Policy.lastSid y) (Policy.start y) of (f .farSound) (sid-octets near on i)
+      (sid-size near on i) (p .start) j (f .matches) in
       let n : Policy.sidCount y - 1 < Entry.hopLimit e = rw (addressesAt-length y 16 (Policy.sidCount y - 1)) at (f .hopLimit) in
       rw (f .nearSound, f .farSound, lt-ltb i (entries near) (f .exists), eq-eqb (Entry.behaviour e) endMGtp6DDi (f .enters), r)
       (told-nothing entryRecord j (between6 e y (entryAt far j))
@@ -201,7 +203,8 @@ module _ (near far : List ℕ) (k : ℕ) (on : Octets near) (of : Octets far) wh
 -- AT A WAYPOINT
 
 module _ (t sid : List ℕ) where
-  matched-fits : (f : Found) → matchEntry t sid ≡ f → atMatched t f ≡ 0 → (i : ℕ) × ((matchEntry t sid ≡ At i) × (Entry.behaviour (entryAt t i) ≡ end))
+  matched-fits : (f : Found) → matchEntry t sid ≡ f → atMatched t f ≡ 0
+      → (i : ℕ) × ((matchEntry t sid ≡ At i) × (Entry.behaviour (entryAt t i) ≡ end))
   matched-fits Nothing e h = absurd (omega arith)
   matched-fits (At i) e h =
       let b = untold entryRecord i (unless (eqb (Entry.behaviour (entryAt t i)) end) 16 0) h in

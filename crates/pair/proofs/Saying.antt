@@ -22,11 +22,14 @@ use Rattle.rules.proofs.Windows.{octets-window}
 use Rattle.rules.proofs.Paths.{addressesAt-length}
 use Rattle.reach.specs.Reach.{ownArgs, reach6, reach4}
 use Rattle.reach.proofs.Own.{own-writable}
-use Rattle.reach.proofs.Reached.{prefix-octets, reach-matches-own6, reach-none6, reach-matches-own4, reach-none4, ruleArgs, ruleDestination, args-writable, destination-under}
+use Rattle.reach.proofs.Reached.{prefix-octets, reach-matches-own6, reach-none6, reach-matches-own4, reach-none4, ruleArgs}
+use Rattle.reach.proofs.Reached.{ruleDestination, args-writable, destination-under}
 use Rattle.pair.specs.Fit.{policyIn}
 use Rattle.pair.specs.Mismatch.{unless, between6, between4, atReached, mismatch6, mismatch4, atMatched, mismatchWaypoint}
-use Rattle.pair.specs.Says.{naming, Asked6, Leads6, Same6, Says6, fit6, nearUnsound6, farUnsound6, noRecord6, notDi6, noEntry6, kind6, direction6, session6, start6, hopLimit6}
-use Rattle.pair.specs.Says.{Leads4, Same4, Says4, fit4, nearUnsound4, farUnsound4, noRecord4, noEntry4, kind4, direction4, session4, p4, q4, hopLimit4}
+use Rattle.pair.specs.Says.{naming, Asked6, Leads6, Same6, Says6, fit6, nearUnsound6, farUnsound6, noRecord6, notDi6, noEntry6}
+use Rattle.pair.specs.Says.{kind6, direction6, session6, start6, hopLimit6}
+use Rattle.pair.specs.Says.{Leads4, Same4, Says4, fit4, nearUnsound4, farUnsound4, noRecord4, noEntry4, kind4, direction4}
+use Rattle.pair.specs.Says.{session4, p4, q4, hopLimit4}
 use Rattle.pair.specs.Says.{SaysWaypoint, fitAt, unsoundAt, sizeAt, noEntryAt, kindAt}
 use Rattle.pair.proofs.Fitting.{between-fits6, between-fits4, di-policy, sid-octets, sid-size, rule-octets, rule-p}
 
@@ -37,7 +40,8 @@ asked : (P : ℕ → Type 0) (b : Bool) (number behind : ℕ) → (b ≡ false �
 asked P true number behind fails goesOn = goesOn refl
 asked P false number behind fails goesOn = fails refl
 
-found : (P : ℕ → Type 0) (between : ℕ → ℕ) (f : Found) → (f ≡ Nothing → P 5) → ((j : ℕ) → f ≡ At j → P (told entryRecord j (between j))) → P (atReached between f)
+found : (P : ℕ → Type 0) (between : ℕ → ℕ) (f : Found) → (f ≡ Nothing → P 5) → ((j : ℕ) → f ≡ At j
+    → P (told entryRecord j (between j))) → P (atReached between f)
 found P between Nothing none at = none refl
 found P between (At j) none at = at j refl
 
@@ -64,8 +68,8 @@ module _ (near far : List ℕ) (i : ℕ) (on : Octets near) (of : Octets far) wh
     asked = a;
     args = ownArgs (Entry.direction e) (Entry.prefix (entryAt far j)) (Policy.start y);
     writable = own-writable (Entry.direction e) (Entry.prefix (entryAt far j)) (Policy.start y) (prefix-octets far of j);
-    matches = reach-matches-own6 far (Entry.direction e) (Policy.lastSid y) (Policy.start y) of (a .farSound) (sid-octets near on i) (sid-size near on i)
-        (di-policy near i (a .nearSound) (a .exists) (a .enters) .start) j r;
+    matches = reach-matches-own6 far (Entry.direction e) (Policy.lastSid y) (Policy.start y) of (a .farSound) (sid-octets near on i)
+        (sid-size near on i) (di-policy near i (a .nearSound) (a .exists) (a .enters) .start) j r;
   }
 
   -- 6 to 12
@@ -78,19 +82,43 @@ module _ (near far : List ℕ) (i : ℕ) (on : Octets near) (of : Octets far) wh
       asked P (eqb (Entry.behaviour f) endMGtp6E) 6 _ (λ h. kind6 j (named 5 j) m (eqb-false _ _ h))
       (λ h₆. asked P (eqb (Entry.direction f) (Entry.direction e)) 7 _
       (λ h. direction6 j (named 6 j)
-      (record { leads = m; leaves = eqb-true _ _ h₆; direction = λ l. absurd (omega arith); session = λ l. absurd (omega arith); start = λ l. absurd (omega arith) })
+      (record {
+        leads = m;
+        leaves = eqb-true _ _ h₆;
+        direction = λ l. absurd (omega arith);
+        session = λ l. absurd (omega arith);
+        start = λ l. absurd (omega arith);
+      })
       (eqb-false _ _ h))
       (λ h₇. asked P (eqb (Entry.session f) (Entry.session e)) 8 _
       (λ h. session6 j (named 7 j)
-      (record { leads = m; leaves = eqb-true _ _ h₆; direction = λ l. eqb-true _ _ h₇; session = λ l. absurd (omega arith); start = λ l. absurd (omega arith) })
+      (record {
+        leads = m;
+        leaves = eqb-true _ _ h₆;
+        direction = λ l. eqb-true _ _ h₇;
+        session = λ l. absurd (omega arith);
+        start = λ l. absurd (omega arith);
+      })
       (eqb-false _ _ h))
       (λ h₈. asked P (eqb (Entry.start f) (Policy.start y)) 9 _
       (λ h. start6 j (named 8 j)
-      (record { leads = m; leaves = eqb-true _ _ h₆; direction = λ l. eqb-true _ _ h₇; session = λ l. eqb-true _ _ h₈; start = λ l. absurd (omega arith) })
+      (record {
+        leads = m;
+        leaves = eqb-true _ _ h₆;
+        direction = λ l. eqb-true _ _ h₇;
+        session = λ l. eqb-true _ _ h₈;
+        start = λ l. absurd (omega arith);
+      })
       (eqb-false _ _ h))
       (λ h₉. asked P (ltb (Policy.sidCount y - 1) (Entry.hopLimit e)) 12 0
       (λ h. hopLimit6 j (named 11 j)
-      (record { leads = m; leaves = eqb-true _ _ h₆; direction = λ l. eqb-true _ _ h₇; session = λ l. eqb-true _ _ h₈; start = λ l. eqb-true _ _ h₉ })
+      (record {
+        leads = m;
+        leaves = eqb-true _ _ h₆;
+        direction = λ l. eqb-true _ _ h₇;
+        session = λ l. eqb-true _ _ h₈;
+        start = λ l. eqb-true _ _ h₉;
+      })
       (rw (addressesAt-length y 16 (Policy.sidCount y - 1)) (ltb-false _ _ h)))
       (λ h₁₂. fit6 (none j) j
       (between-fits6 near far i on of j (a .nearSound) (a .farSound) (a .exists) (a .enters) r (rw (h₆, h₇, h₈, h₉, h₁₂) refl)))))))
@@ -139,23 +167,58 @@ module _ (near far : List ℕ) (k : ℕ) (on : Octets near) (of : Octets far) wh
       asked P (eqb (Entry.behaviour f) endMGtp4E) 6 _ (λ h. kind4 j (named 5 j) m (eqb-false _ _ h))
       (λ h₆. asked P (eqb (Entry.direction f) (Rule.direction r)) 7 _
       (λ h. direction4 j (named 6 j)
-      (record { leads = m; leaves = eqb-true _ _ h₆; direction = λ l. absurd (omega arith); session = λ l. absurd (omega arith); p = λ l. absurd (omega arith); q = λ l. absurd (omega arith) })
+      (record {
+        leads = m;
+        leaves = eqb-true _ _ h₆;
+        direction = λ l. absurd (omega arith);
+        session = λ l. absurd (omega arith);
+        p = λ l. absurd (omega arith);
+        q = λ l. absurd (omega arith);
+      })
       (eqb-false _ _ h))
       (λ h₇. asked P (eqb (Entry.session f) (Rule.session r)) 8 _
       (λ h. session4 j (named 7 j)
-      (record { leads = m; leaves = eqb-true _ _ h₆; direction = λ l. eqb-true _ _ h₇; session = λ l. absurd (omega arith); p = λ l. absurd (omega arith); q = λ l. absurd (omega arith) })
+      (record {
+        leads = m;
+        leaves = eqb-true _ _ h₆;
+        direction = λ l. eqb-true _ _ h₇;
+        session = λ l. absurd (omega arith);
+        p = λ l. absurd (omega arith);
+        q = λ l. absurd (omega arith);
+      })
       (eqb-false _ _ h))
       (λ h₈. asked P (eqb (Entry.p f) (Rule.p r)) 10 _
       (λ h. p4 j (named 9 j)
-      (record { leads = m; leaves = eqb-true _ _ h₆; direction = λ l. eqb-true _ _ h₇; session = λ l. eqb-true _ _ h₈; p = λ l. absurd (omega arith); q = λ l. absurd (omega arith) })
+      (record {
+        leads = m;
+        leaves = eqb-true _ _ h₆;
+        direction = λ l. eqb-true _ _ h₇;
+        session = λ l. eqb-true _ _ h₈;
+        p = λ l. absurd (omega arith);
+        q = λ l. absurd (omega arith);
+      })
       (eqb-false _ _ h))
       (λ h₁₀. asked P (eqb (Entry.q f) (Rule.q r)) 11 _
       (λ h. q4 j (named 10 j)
-      (record { leads = m; leaves = eqb-true _ _ h₆; direction = λ l. eqb-true _ _ h₇; session = λ l. eqb-true _ _ h₈; p = λ l. eqb-true _ _ h₁₀; q = λ l. absurd (omega arith) })
+      (record {
+        leads = m;
+        leaves = eqb-true _ _ h₆;
+        direction = λ l. eqb-true _ _ h₇;
+        session = λ l. eqb-true _ _ h₈;
+        p = λ l. eqb-true _ _ h₁₀;
+        q = λ l. absurd (omega arith);
+      })
       (eqb-false _ _ h))
       (λ h₁₁. asked P (ltb (Rule.waypointCount r) (Rule.hopLimit r)) 12 0
       (λ h. hopLimit4 j (named 11 j)
-      (record { leads = m; leaves = eqb-true _ _ h₆; direction = λ l. eqb-true _ _ h₇; session = λ l. eqb-true _ _ h₈; p = λ l. eqb-true _ _ h₁₀; q = λ l. eqb-true _ _ h₁₁ })
+      (record {
+        leads = m;
+        leaves = eqb-true _ _ h₆;
+        direction = λ l. eqb-true _ _ h₇;
+        session = λ l. eqb-true _ _ h₈;
+        p = λ l. eqb-true _ _ h₁₀;
+        q = λ l. eqb-true _ _ h₁₁;
+      })
       (rw (addressesAt-length r 48 (Rule.waypointCount r)) (ltb-false _ _ h)))
       (λ h₁₂. fit4 (none j) j (between-fits4 near far k on of j sn sf l e (rw (h₆, h₇, h₈, h₁₀, h₁₁, h₁₂) refl))))))))
 

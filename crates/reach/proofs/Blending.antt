@@ -124,7 +124,9 @@ module _ (r : List ℕ) (or : Octets r) (hp : Rule.p r ≤ 7) (prefix : List ℕ
       pick (no k) (yes m) =
           let e : t ≡ u = omega arith in
           more-dropped (blend x y s) x s t (omega arith) (blend-first x y s) ∙ rw e (sym both)
-      pick (no k) (no m) = all-dropped (blend x y s) t (blended-octet i) (omega arith) ∙ sym (all-dropped y t (op (Rule.p r + i)) (omega arith))
+      pick (no k) (no m) =
+          all-dropped (blend x y s) t (blended-octet i) (omega arith)
+          ∙ sym (all-dropped y t (op (Rule.p r + i)) (omega arith))
 
   pub reaches-blended : (b : ℕ) → reaches4 r prefix b ≡ true
       → under 16 (ruleSid r (blendedDestination r prefix) (ownArgs (Rule.direction r) prefix (startBehind (Rule.p r)))) prefix b ≡ true

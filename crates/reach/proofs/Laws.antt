@@ -23,7 +23,8 @@ low-bits : (b : Bool) (qfi reflective : ℕ) → qfi < 64 → (cond b (reflectiv
 low-bits true qfi reflective l = omega arith
 low-bits false qfi reflective l = omega arith
 
-bit-above : (b : Bool) (qfi reflective : ℕ) → qfi < 64 → reflective < 2 → cond b ((cond b (reflective * 64) 0 + qfi) / 64 % 2) 0 ≡ cond b reflective 0
+bit-above : (b : Bool) (qfi reflective : ℕ) → qfi < 64 → reflective < 2
+    → cond b ((cond b (reflective * 64) 0 + qfi) / 64 % 2) 0 ≡ cond b reflective 0
 bit-above true qfi reflective l k = omega arith
 bit-above false qfi reflective l k = refl
 
@@ -31,7 +32,9 @@ pub through-container : (direction : ℕ) (prefix : List ℕ) (start flow : ℕ)
     → flow ≡ flowOctet direction (held .qfi) (held .reflective) → teid ≡ held .teid
     → record { qfi = flow % 64; reflective = cond (eqb direction downlink) (flow / 64 % 2) 0; teid = teid } ≡ ownArgs direction prefix start
 unfolding argsAt
-through-container direction prefix start flow teid held h f t = λ i. record { qfi = qfi i; reflective = reflective i; teid = (t ∙ ap (λ (x : Args). x .teid) h) i }
+through-container direction prefix start flow teid held h f t =
+    let same = t ∙ ap (λ (x : Args). x .teid) h in
+    λ i. record { qfi = qfi i; reflective = reflective i; teid = same i }
   where
     v : ℕ
     v = octet prefix (start / 8)

@@ -77,7 +77,8 @@ module _ (direction : ℕ) (sid : List ℕ) (start : ℕ) (x : Args) (hs : lengt
       first = rw here at q
 
       pick : (b : Bool) → eqb direction downlink ≡ b
-          → (octet prefix (start / 8) / 4 % 64 * 4 + cond b (octet prefix (start / 8) / 2 % 2) 0 * 2) / 2 ^ s ≡ octet prefix (start / 8 + 0) / 2 ^ s
+          → (octet prefix (start / 8) / 4 % 64 * 4 + cond b (octet prefix (start / 8) / 2 % 2) 0 * 2) / 2 ^ s
+          ≡ octet prefix (start / 8 + 0) / 2 ^ s
       pick true e = rw here (in-downlink (octet prefix (start / 8)) (x .qfi * 4 + x .reflective * 2) s (op (start / 8)) (omega arith) first)
       pick false e =
           let z : x .reflective ≡ 0 = w .notDownlink (eqb-false direction downlink e) in
@@ -101,7 +102,8 @@ module _ (direction : ℕ) (sid : List ℕ) (start : ℕ) (x : Args) (hs : lengt
       (λ i k. rw (behind-args sid start y hs hb (u .size) i, ← behind-args sid start x hs hb (w .size) i) (g (start / 8 + 5 + i) k)))
 
   -- and where the prefix ends before Args, under with the own, under with all
-  pub reaches-every : (b : ℕ) → start % 8 ≡ 0 → b ≤ start → reaches6 direction sid start prefix b ≡ true → under 16 (withArgs sid start x) prefix b ≡ true
+  pub reaches-every : (b : ℕ) → start % 8 ≡ 0 → b ≤ start → reaches6 direction sid start prefix b ≡ true
+      → under 16 (withArgs sid start x) prefix b ≡ true
   unfolding reaches6
   reaches-every b h0 l h =
       let y = ownArgs direction prefix start in

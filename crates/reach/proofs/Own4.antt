@@ -17,7 +17,8 @@ use Rattle.rules.proofs.Windows.{window-length, octet-window, octets-window}
 use Rattle.rules.proofs.Conditions.{and-left, and-both}
 use Rattle.reach.specs.Reach.{Writable, Under, ruleSid, ownArgs, smaller, ownDestination, reaches6, reaches4}
 use Rattle.reach.proofs.Agreeing.{beyond, all-dropped, more-dropped, under-agree, agree-under, same-front}
-use Rattle.reach.proofs.Placing.{in-parts, base-size, base-octets, start-fits, rule-octets, before-destination, in-destination, same-behind}
+use Rattle.reach.proofs.Placing.{in-parts, base-size, base-octets, start-fits, rule-octets, before-destination, in-destination}
+use Rattle.reach.proofs.Placing.{same-behind}
 use Rattle.reach.proofs.Own.{own-writable, some-reaches}
 
 module _ (r : List ℕ) (or : Octets r) (hp : Rule.p r ≤ 7) (prefix : List ℕ) (op : Octets prefix) where
@@ -66,7 +67,8 @@ module _ (r : List ℕ) (or : Octets r) (hp : Rule.p r ≤ 7) (prefix : List ℕ
           pick i l (yes y) =
               let m : ℕ = beyond (smaller (Rule.prefixLength r) (b - 8 * Rule.p r)) i in
               let v = Rule.direction r in
-              let g = under-agree (ruleSid r d x) prefix (rule-octets r or hp d (u .size) (u .octets) v x w) op b 16 h (Rule.p r + i) (omega arith) in
+              let o = rule-octets r or hp d (u .size) (u .octets) v x w in
+              let g = under-agree (ruleSid r d x) prefix o op b 16 h (Rule.p r + i) (omega arith) in
               let seen : octet d i / 2 ^ beyond b (Rule.p r + i) ≡ octet prefix (Rule.p r + i) / 2 ^ beyond b (Rule.p r + i) =
               rw (in-destination r or hp d (u .size) (u .octets) v x w i l) at g in
               let held = under-agree d (Rule.prefix r) (u .octets) (octets-window r 8 4 or) (Rule.prefixLength r) 4 (u .under) i l in
@@ -78,7 +80,8 @@ module _ (r : List ℕ) (or : Octets r) (hp : Rule.p r ≤ 7) (prefix : List ℕ
       unfolding reaches4 reaches6
       some-reaches4 b h =
           let own = some-reaches (Rule.direction r) (addressBehind (Rule.sidPrefix r) (Rule.p r) d) (startBehind (Rule.p r)) x
-          (base-size r or hp d (u .size) (u .octets)) (start-fits r or hp d (u .size) (u .octets)) (base-octets r or hp d (u .size) (u .octets))
+          (base-size r or hp d (u .size) (u .octets)) (start-fits r or hp d (u .size) (u .octets))
+          (base-octets r or hp d (u .size) (u .octets))
           w prefix op b h in
           and-both _ _ (own-instead (ownArgs (Rule.direction r) prefix (startBehind (Rule.p r))) rule-args-writable b own) (own-under b h)
 
@@ -89,7 +92,8 @@ module _ (r : List ℕ) (or : Octets r) (hp : Rule.p r ≤ 7) (prefix : List ℕ
           let v = Rule.direction r in
           let y = ownArgs v prefix (startBehind (Rule.p r)) in
           same-front (ruleSid r c y) (ruleSid r d x) prefix 16 (Rule.p r) b
-          (rule-octets r or hp c destination-size destination-octets v y rule-args-writable) (rule-octets r or hp d (u .size) (u .octets) v x w) op l
+          (rule-octets r or hp c destination-size destination-octets v y rule-args-writable)
+          (rule-octets r or hp d (u .size) (u .octets) v x w) op l
           (λ i k. before-destination r or hp c destination-size destination-octets v y rule-args-writable i k
           ∙ sym (before-destination r or hp d (u .size) (u .octets) v x w i k))
           (and-left _ _ h)

@@ -44,7 +44,9 @@ module _ (front middle back : List ℕ) (n m : ℕ) (hf : length front ≡ n) (h
 
   third-part : (k : ℕ) → octet (front ++ (middle ++ back)) (n + m + k) ≡ octet back k
   third-part k =
-      ap (octet (front ++ (middle ++ back))) (regroup n m k) ∙ octet-past front (middle ++ back) n (m + k) hf ∙ octet-past middle back m k hm
+      ap (octet (front ++ (middle ++ back))) (regroup n m k)
+      ∙ octet-past front (middle ++ back) n (m + k) hf
+      ∙ octet-past middle back m k hm
 
 -- A SID WITH ARGS
 
@@ -159,8 +161,10 @@ module _ (r : List ℕ) (or : Octets r) (hp : Rule.p r ≤ 7) (d : List ℕ) (hd
         ∙ behind-address (Rule.sidPrefix r) (Rule.p r) d prefix-room hd (5 + k)
 
 -- behind the destination a rule's SIDs with the same Args are the same
-pub same-behind : (r : List ℕ) (or : Octets r) (hp : Rule.p r ≤ 7) (c d : List ℕ) (hc : length c ≡ 4) (oc : Octets c) (hd : length d ≡ 4) (od : Octets d)
-    (direction : ℕ) (x : Args) (w : Writable direction x) (k : ℕ) → octet (ruleSid r c x) (Rule.p r + 4 + k) ≡ octet (ruleSid r d x) (Rule.p r + 4 + k)
+pub same-behind : (r : List ℕ) (or : Octets r) (hp : Rule.p r ≤ 7) (c d : List ℕ) (hc : length c ≡ 4) (oc : Octets c)
+    (hd : length d ≡ 4) (od : Octets d)
+    (direction : ℕ) (x : Args) (w : Writable direction x) (k : ℕ)
+    → octet (ruleSid r c x) (Rule.p r + 4 + k) ≡ octet (ruleSid r d x) (Rule.p r + 4 + k)
 same-behind r or hp c d hc oc hd od direction x w k = pick (decLt k 5)
   where
     pick : Dec (k < 5) → octet (ruleSid r c x) (Rule.p r + 4 + k) ≡ octet (ruleSid r d x) (Rule.p r + 4 + k)

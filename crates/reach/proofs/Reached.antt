@@ -25,7 +25,8 @@ use Rattle.reach.proofs.Blending.{blendedDestination, blended-under, re
 -- an address under an entry only where that entry is reached
 module _ (t a : List ℕ) (s : sound t ≡ true) (reached : ℕ → Bool) (up : (k : ℕ) → entryMatches t a k ≡ true → reached k ≡ true) where
   -- the longest that is reached, if the address is under it
-  reached-match : (j : ℕ) → longest reached (entryBits t) (entries t) ≡ At j → (reached j ≡ true → entryMatches t a j ≡ true) → matchEntry t a ≡ At j
+  reached-match : (j : ℕ) → longest reached (entryBits t) (entries t) ≡ At j → (reached j ≡ true → entryMatches t a j ≡ true)
+      → matchEntry t a ≡ At j
   reached-match j e down =
       let b = longest-at reached (entryBits t) (entries t) j e in
       the-longest-entry entryLimit t a s (At j) (record { below = b .below; hit = down (b .hit); most = λ k l m. b .most k l (up k m) })
@@ -64,20 +65,25 @@ module _ (t : List ℕ) (direction : ℕ) (sid : List ℕ) (start : ℕ) (o : Oc
       let x = ownArgs direction (Entry.prefix (entryAt t j)) start in
       let w = own-writable direction (Entry.prefix (entryAt t j)) start (prefix-octets t o j) in
       reached-match t (withArgs sid start x) s (entryReached6 t direction sid start)
-      (λ k m. some-reaches direction sid start x hs hb os w (Entry.prefix (entryAt t k)) (prefix-octets t o k) (entryBits t k) m) j e (λ h. h)
+      (λ k m. some-reaches direction sid start x hs hb os w (Entry.prefix (entryAt t k)) (prefix-octets t o k) (entryBits t k) m) j e
+      (λ h. h)
 
-  pub reach-none6 : reach6 t direction sid start ≡ Nothing → (x : Args) → Writable direction x → matchEntry t (withArgs sid start x) ≡ Nothing
+  pub reach-none6 : reach6 t direction sid start ≡ Nothing → (x : Args) → Writable direction x
+      → matchEntry t (withArgs sid start x) ≡ Nothing
   unfolding reach6
   reach-none6 e x w =
       none-match t (withArgs sid start x) s (entryReached6 t direction sid start)
       (λ k m. some-reaches direction sid start x hs hb os w (Entry.prefix (entryAt t k)) (prefix-octets t o k) (entryBits t k) m) e
 
   -- so what is the longest match with all Args is the longest that is reached
-  pub matches-reach6 : (j : ℕ) → ((x : Args) → Writable direction x → matchEntry t (withArgs sid start x) ≡ At j) → reach6 t direction sid start ≡ At j
+  pub matches-reach6 : (j : ℕ) → ((x : Args) → Writable direction x → matchEntry t (withArgs sid start x) ≡ At j)
+      → reach6 t direction sid start ≡ At j
   matches-reach6 j m = pick (reach6 t direction sid start) refl
     where
       own : (i : ℕ) → matchEntry t (withArgs sid start (ownArgs direction (Entry.prefix (entryAt t i)) start)) ≡ At j
-      own i = m (ownArgs direction (Entry.prefix (entryAt t i)) start) (own-writable direction (Entry.prefix (entryAt t i)) start (prefix-octets t o i))
+      own i =
+          m (ownArgs direction (Entry.prefix (entryAt t i)) start)
+          (own-writable direction (Entry.prefix (entryAt t i)) start (prefix-octets t o i))
 
       pick : (f : Found) → reach6 t direction sid start ≡ f → f ≡ At j
       pick Nothing e =
@@ -100,7 +106,8 @@ abbrev pub ruleDestination : (t r : List ℕ) (k : ℕ) → List ℕ
 ruleDestination t r k = blendedDestination r (Entry.prefix (entryAt t k))
 
 module _ (t r : List ℕ) (o : Octets t) (s : sound t ≡ true) (or : Octets r) (hp : Rule.p r ≤ 7) where
-  up : (d : List ℕ) (x : Args) → Under r d → Writable (Rule.direction r) x → (k : ℕ) → entryMatches t (ruleSid r d x) k ≡ true → entryReached4 t r k ≡ true
+  up : (d : List ℕ) (x : Args) → Under r d → Writable (Rule.direction r) x → (k : ℕ) → entryMatches t (ruleSid r d x) k ≡ true
+      → entryReached4 t r k ≡ true
   up d x u w k m = some-reaches4 r or hp (Entry.prefix (entryAt t k)) (prefix-octets t o k) d u x w (entryBits t k) m
 
   pub args-writable : (k : ℕ) → Writable (Rule.direction r) (ruleArgs t r k)
@@ -123,7 +130,8 @@ module _ (t r : List ℕ) (o : Octets t) (s : sound t ≡ true) (or : Octets r) 
       (up (ruleDestination t r j) (ruleArgs t r j) (destination-under j) (args-writable j)) j e
       (λ h. reaches-blended r or hp (Entry.prefix (entryAt t j)) (prefix-octets t o j) (entryBits t j) h)
 
-  pub reach-none4 : reach4 t r ≡ Nothing → (d : List ℕ) (x : Args) → Under r d → Writable (Rule.direction r) x → matchEntry t (ruleSid r d x) ≡ Nothing
+  pub reach-none4 : reach4 t r ≡ Nothing → (d : List ℕ) (x : Args) → Under r d → Writable (Rule.direction r) x
+      → matchEntry t (ruleSid r d x) ≡ Nothing
   unfolding reach4
   reach-none4 e d x u w = none-match t (ruleSid r d x) s (entryReached4 t r) (up d x u w) e
 

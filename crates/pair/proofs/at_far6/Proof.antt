@@ -18,9 +18,11 @@ entry-at-requires c κs =
     let d : ℕ = octet (now (a .e)) 3 in
     let y : List ℕ = now (a .y) in
     let t : List ℕ = now (a .far) in
-    let before = c6 .before .less .ensures ∙ ap (λ (n : ℕ). n - 1) (c6 .before .before .wide .ensures .0) in
+    let count = c6 .before .before .wide .ensures .0 in
+    let before = c6 .before .less .ensures ∙ ap (λ (n : ℕ). n - 1) count in
     let last = c6 .window16 .ensures ∙ ap (λ (n : ℕ). window y (16 + 16 * n) 16) before in
-    let m = sym (c .before .before .before .reach6 .ensures ∙ ap (λ (sid : List ℕ). reach6 t d sid (octet y 1)) last) ∙ c .before .found .given .1 in
+    let r = c .before .before .before .reach6 .ensures ∙ ap (λ (sid : List ℕ). reach6 t d sid (octet y 1)) last in
+    let m = sym r ∙ c .before .found .given .1 in
     omega (arith, reach6-below t _ _ _ _ m)
 
 told-requires : tie.Need-told-requires
@@ -31,9 +33,11 @@ told-requires c κs =
     let d : ℕ = octet (now (a .e)) 3 in
     let y : List ℕ = now (a .y) in
     let t : List ℕ = now (a .far) in
-    let before = c6 .before .before .before .less .ensures ∙ ap (λ (n : ℕ). n - 1) (c6 .before .before .before .before .wide .ensures .0) in
+    let count = c6 .before .before .before .before .wide .ensures .0 in
+    let before = c6 .before .before .before .less .ensures ∙ ap (λ (n : ℕ). n - 1) count in
     let last = c6 .before .before .window16 .ensures ∙ ap (λ (n : ℕ). window y (16 + 16 * n) 16) before in
-    let m = sym (c .before .before .before .before .before .reach6 .ensures ∙ ap (λ (sid : List ℕ). reach6 t d sid (octet y 1)) last) ∙ c .before .before .before .found .given .1 in
+    let r = c .before .before .before .before .before .reach6 .ensures ∙ ap (λ (sid : List ℕ). reach6 t d sid (octet y 1)) last in
+    let m = sym r ∙ c .before .before .before .found .given .1 in
     omega (arith, reach6-below t _ _ _ _ m)
 
 returns : tie.Need-returns
@@ -44,9 +48,11 @@ returns c =
     let d : ℕ = octet (now (a .e)) 3 in
     let y : List ℕ = now (a .y) in
     let t : List ℕ = now (a .far) in
-    let before = c6 .less .ensures ∙ ap (λ (n : ℕ). n - 1) (c6 .before .wide .ensures .0) in
+    let count = c6 .before .wide .ensures .0 in
+    let before = c6 .less .ensures ∙ ap (λ (n : ℕ). n - 1) count in
     let last = c .before .before .before .before .before .window16 .ensures ∙ ap (λ (n : ℕ). window y (16 + 16 * n) 16) before in
-    let m = sym (c .before .before .reach6 .ensures ∙ ap (λ (sid : List ℕ). reach6 t d sid (octet y 1)) last) ∙ c .enum-told .given .1 in
+    let r = c .before .before .reach6 .ensures ∙ ap (λ (sid : List ℕ). reach6 t d sid (octet y 1)) last in
+    let m = sym r ∙ c .enum-told .given .1 in
     rw m refl
 
 returns-2 : tie.Need-returns-2
@@ -57,9 +63,11 @@ returns-2 c =
     let d : ℕ = octet (now (a .e)) 3 in
     let y : List ℕ = now (a .y) in
     let t : List ℕ = now (a .far) in
-    let before = c6 .before .before .before .before .less .ensures ∙ ap (λ (n : ℕ). n - 1) (c6 .before .before .before .before .before .wide .ensures .0) in
+    let count = c6 .before .before .before .before .before .wide .ensures .0 in
+    let before = c6 .before .before .before .before .less .ensures ∙ ap (λ (n : ℕ). n - 1) count in
     let last = c6 .before .before .before .window16 .ensures ∙ ap (λ (n : ℕ). window y (16 + 16 * n) 16) before in
-    let m = sym (c6 .reach6 .ensures ∙ ap (λ (sid : List ℕ). reach6 t d sid (octet y 1)) last) ∙ c .before .before .before .before .found .given .1 in
+    let r = c6 .reach6 .ensures ∙ ap (λ (sid : List ℕ). reach6 t d sid (octet y 1)) last in
+    let m = sym r ∙ c .before .before .before .before .found .given .1 in
     rw (m, ← c .before .before .entry-at .ensures .same, ← c .before .between6 .ensures) (c .told .ensures)
 
 pub at-far6-spec : {M : Type 1} → statement M

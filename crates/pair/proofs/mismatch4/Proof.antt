@@ -49,7 +49,8 @@ returns-3 c =
     let near : List ℕ = now (a .near) in
     let far : List ℕ = now (a .far) in
     let i : ℕ = a .k in
-    let sn : sound near ≡ true = sym (c .before .before .before .before .before .sound .ensures) ∙ not-false _ (c .before .before .before .before .if1 .left) in
+    let sn : sound near ≡ true =
+    sym (c .before .before .before .before .before .sound .ensures) ∙ not-false _ (c .before .before .before .before .if1 .left) in
     let sf : sound far ≡ true = sym (c .before .before .before .sound2 .ensures) ∙ not-false _ (c .before .before .if2 .left) in
     let l : rules near ≤ i = rw (← c .before .rules .ensures .value) (c .if3 .taken) in
     no-rule4 near far i sn sf l
@@ -61,7 +62,8 @@ rule-at-requires c κs =
     let near : List ℕ = now (a .near) in
     let far : List ℕ = now (a .far) in
     let i : ℕ = a .k in
-    let sn : sound near ≡ true = sym (c .before .before .before .before .before .sound .ensures) ∙ not-false _ (c .before .before .before .before .if1 .left) in
+    let sn : sound near ≡ true =
+    sym (c .before .before .before .before .before .sound .ensures) ∙ not-false _ (c .before .before .before .before .if1 .left) in
     let sf : sound far ≡ true = sym (c .before .before .before .sound2 .ensures) ∙ not-false _ (c .before .before .if2 .left) in
     let l : i < rules near = rw (← c .before .rules .ensures .value) (c .if3 .left) in
     rule-within near sn i l
@@ -74,7 +76,8 @@ at-far4-requires c κs =
     let far : List ℕ = now (a .far) in
     let i : ℕ = a .k in
     let sn : sound near ≡ true = sym (c6 .sound .ensures) ∙ not-false _ (c .before .before .before .before .before .if1 .left) in
-    let sf : sound far ≡ true = sym (c .before .before .before .before .sound2 .ensures) ∙ not-false _ (c .before .before .before .if2 .left) in
+    let sf : sound far ≡ true =
+    sym (c .before .before .before .before .sound2 .ensures) ∙ not-false _ (c .before .before .before .if2 .left) in
     let l : i < rules near = rw (← c .before .before .rules .ensures .value) (c .before .if3 .left) in
     (c .rule-at .ensures .long, rw (c .rule-at .ensures .same) (rule-p near i sn l), entries-within far sf, few-entries far sf)
 
@@ -86,7 +89,8 @@ returns-4 c =
     let far : List ℕ = now (a .far) in
     let i : ℕ = a .k in
     let sn : sound near ≡ true = sym (c6 .before .sound .ensures) ∙ not-false _ (c6 .if1 .left) in
-    let sf : sound far ≡ true = sym (c .before .before .before .before .before .sound2 .ensures) ∙ not-false _ (c .before .before .before .before .if2 .left) in
+    let sf : sound far ≡ true =
+    sym (c .before .before .before .before .before .sound2 .ensures) ∙ not-false _ (c .before .before .before .before .if2 .left) in
     let l : i < rules near = rw (← c .before .before .before .rules .ensures .value) (c .before .before .if3 .left) in
     c .at-far4 .ensures ∙ at-far4 near far i sn sf l _ (c .before .rule-at .ensures .same)
 

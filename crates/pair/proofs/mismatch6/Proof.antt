@@ -51,7 +51,8 @@ returns-3 c =
     let near : List ℕ = now (a .near) in
     let far : List ℕ = now (a .far) in
     let i : ℕ = a .i in
-    let sn : sound near ≡ true = sym (c .before .before .before .before .before .sound .ensures) ∙ not-false _ (c .before .before .before .before .if1 .left) in
+    let sn : sound near ≡ true =
+    sym (c .before .before .before .before .before .sound .ensures) ∙ not-false _ (c .before .before .before .before .if1 .left) in
     let sf : sound far ≡ true = sym (c .before .before .before .sound2 .ensures) ∙ not-false _ (c .before .before .if2 .left) in
     let l : entries near ≤ i = rw (← c .before .entries .ensures .value) (c .if3 .taken) in
     no-entry6 near far i sn sf l
@@ -63,7 +64,8 @@ entry-at-requires c κs =
     let near : List ℕ = now (a .near) in
     let far : List ℕ = now (a .far) in
     let i : ℕ = a .i in
-    let sn : sound near ≡ true = sym (c .before .before .before .before .before .sound .ensures) ∙ not-false _ (c .before .before .before .before .if1 .left) in
+    let sn : sound near ≡ true =
+    sym (c .before .before .before .before .before .sound .ensures) ∙ not-false _ (c .before .before .before .before .if1 .left) in
     let sf : sound far ≡ true = sym (c .before .before .before .sound2 .ensures) ∙ not-false _ (c .before .before .if2 .left) in
     let l : i < entries near = rw (← c .before .entries .ensures .value) (c .if3 .left) in
     entry-within near sn i l
@@ -89,7 +91,8 @@ policy-at-requires c κs =
     let near : List ℕ = now (a .near) in
     let far : List ℕ = now (a .far) in
     let i : ℕ = a .i in
-    let sn : sound near ≡ true = sym (c6 .before .before .before .before .sound .ensures) ∙ not-false _ (c6 .before .before .before .if1 .left) in
+    let sn : sound near ≡ true =
+    sym (c6 .before .before .before .before .sound .ensures) ∙ not-false _ (c6 .before .before .before .if1 .left) in
     let sf : sound far ≡ true = sym (c6 .before .before .sound2 .ensures) ∙ not-false _ (c6 .before .if2 .left) in
     let l : i < entries near = rw (← c6 .entries .ensures .value) (c .before .before .before .before .before .if3 .left) in
     let e = c .before .before .before .before .entry-at .ensures .same in
@@ -105,7 +108,8 @@ at-far6-requires c κs =
     let near : List ℕ = now (a .near) in
     let far : List ℕ = now (a .far) in
     let i : ℕ = a .i in
-    let sn : sound near ≡ true = sym (c6 .before .before .before .before .before .sound .ensures) ∙ not-false _ (c6 .before .before .before .before .if1 .left) in
+    let sn : sound near ≡ true =
+    sym (c6 .before .before .before .before .before .sound .ensures) ∙ not-false _ (c6 .before .before .before .before .if1 .left) in
     let sf : sound far ≡ true = sym (c6 .before .before .before .sound2 .ensures) ∙ not-false _ (c6 .before .before .if2 .left) in
     let l : i < entries near = rw (← c6 .before .entries .ensures .value) (c6 .if3 .left) in
     let e = c .before .before .before .before .before .entry-at .ensures .same in
@@ -124,7 +128,8 @@ returns-5 c =
     let far : List ℕ = now (a .far) in
     let i : ℕ = a .i in
     let sn : sound near ≡ true = sym (c12 .sound .ensures) ∙ not-false _ (c6 .before .before .before .before .before .if1 .left) in
-    let sf : sound far ≡ true = sym (c6 .before .before .before .before .sound2 .ensures) ∙ not-false _ (c6 .before .before .before .if2 .left) in
+    let sf : sound far ≡ true =
+    sym (c6 .before .before .before .before .sound2 .ensures) ∙ not-false _ (c6 .before .before .before .if2 .left) in
     let l : i < entries near = rw (← c6 .before .before .entries .ensures .value) (c6 .before .if3 .left) in
     let e = c6 .entry-at .ensures .same in
     let b : Entry.behaviour (entryAt near i) ≡ 70 = ap (λ (r : List ℕ). octet r 0) (sym e) ∙ c .before .before .before .before .if4 .left in

@@ -42,7 +42,8 @@ entry-at-requires c κs =
     let sid : List ℕ = now (c6 .before .before .before .before .args .sid) in
     let h : sound t ≡ true = sym (c6 .before .sound .ensures) ∙ not-false _ (c6 .if1 .left) in
     let l : length sid ≡ 16 = c .before .before .before .before .before .if2 .left in
-    let m = matched t sid _ l (c .before .before .before .before .window16 .ensures) (c .before .before .before .find .ensures) (c .before .found .given .1) in
+    let w = c .before .before .before .before .window16 .ensures in
+    let m = matched t sid _ l w (c .before .before .before .find .ensures) (c .before .found .given .1) in
     found-entry-within t h sid _ m
 
 told-requires : tie.Need-told-requires
@@ -51,9 +52,11 @@ told-requires c κs =
     let c12 = c6 .before .before .before .before .before .before in
     let t : List ℕ = now (c12 .before .args .table) in
     let sid : List ℕ = now (c12 .before .args .sid) in
-    let h : sound t ≡ true = sym (c6 .before .before .before .before .sound .ensures) ∙ not-false _ (c6 .before .before .before .if1 .left) in
+    let h : sound t ≡ true =
+    sym (c6 .before .before .before .before .sound .ensures) ∙ not-false _ (c6 .before .before .before .if1 .left) in
     let l : length sid ≡ 16 = c6 .before .before .if2 .left in
-    let m = matched t sid _ l (c6 .before .window16 .ensures) (c6 .find .ensures) (c .before .before .before .before .found .given .1) in
+    let w = c6 .before .window16 .ensures in
+    let m = matched t sid _ l w (c6 .find .ensures) (c .before .before .before .before .found .given .1) in
     omega (arith, few-entries t h, matched-entry t sid _ m .below)
 
 returns-3 : tie.Need-returns-3
@@ -63,7 +66,8 @@ returns-3 c =
     let sid : List ℕ = now (c6 .before .before .before .args .sid) in
     let h : sound t ≡ true = sym (c6 .sound .ensures) ∙ not-false _ (c .before .before .before .before .before .if1 .left) in
     let l : length sid ≡ 16 = c .before .before .before .before .if2 .left in
-    let m = matched t sid _ l (c .before .before .before .window16 .ensures) (c .before .before .find .ensures) (c .enum-told .given .1) in
+    let w = c .before .before .before .window16 .ensures in
+    let m = matched t sid _ l w (c .before .before .find .ensures) (c .enum-told .given .1) in
     at-waypoint t sid h l _ m
 
 returns-4 : tie.Need-returns-4
@@ -72,10 +76,13 @@ returns-4 c =
     let c12 = c6 .before .before .before .before .before .before in
     let t : List ℕ = now (c12 .before .before .args .table) in
     let sid : List ℕ = now (c12 .before .before .args .sid) in
-    let h : sound t ≡ true = sym (c6 .before .before .before .before .before .sound .ensures) ∙ not-false _ (c6 .before .before .before .before .if1 .left) in
+    let h : sound t ≡ true =
+    sym (c6 .before .before .before .before .before .sound .ensures) ∙ not-false _ (c6 .before .before .before .before .if1 .left) in
     let l : length sid ≡ 16 = c6 .before .before .before .if2 .left in
-    let m = matched t sid _ l (c6 .before .before .window16 .ensures) (c6 .before .find .ensures) (c .before .before .before .before .before .found .given .1) in
-    c .told .ensures ∙ (rw (← c .before .before .before .entry-at .ensures .same, ← c .before .unless .ensures) at (at-waypoint t sid h l _ m))
+    let w = c6 .before .before .window16 .ensures in
+    let m = matched t sid _ l w (c6 .before .find .ensures) (c .before .before .before .before .before .found .given .1) in
+    let k = at-waypoint t sid h l _ m in
+    c .told .ensures ∙ (rw (← c .before .before .before .entry-at .ensures .same, ← c .before .unless .ensures) at k)
 
 pub mismatch-waypoint-spec : {M : Type 1} → statement M
 mismatch-waypoint-spec =

@@ -4,7 +4,9 @@ use Rattle.reach.proofs.entry_matched.Tie as tie
 
 returns : tie.Need-returns
 returns c =
-    rw (← c .before .before .before .before .entry-at .ensures .same, ← c .before .before .before .window16 .ensures, ← c .before .wide .ensures .0) (c .lies-under .ensures)
+    let e = c .before .before .before .before .entry-at .ensures .same in
+    let p = c .before .before .before .window16 .ensures in
+    rw (← e, ← p, ← c .before .wide .ensures .0) (c .lies-under .ensures)
 
 pub entry-matched-spec : {M : Type 1} → statement M
 entry-matched-spec =

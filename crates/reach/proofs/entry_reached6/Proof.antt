@@ -4,7 +4,9 @@ use Rattle.reach.proofs.entry_reached6.Tie as tie
 
 returns : tie.Need-returns
 returns c =
-    rw (← c .before .before .before .before .entry-at .ensures .same, ← c .before .before .before .window16 .ensures, ← c .before .wide .ensures .0) (c .reaches6 .ensures)
+    let e = c .before .before .before .before .entry-at .ensures .same in
+    let p = c .before .before .before .window16 .ensures in
+    rw (← e, ← p, ← c .before .wide .ensures .0) (c .reaches6 .ensures)
 
 pub entry-reached6-spec : {M : Type 1} → statement M
 entry-reached6-spec =

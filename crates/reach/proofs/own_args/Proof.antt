@@ -8,7 +8,8 @@ returns : tie.Need-returns
 returns c =
     let a = c .before .before .before .before .args in
     c .from-container .ensures
-    ∙ through-container (a .direction) (a .prefix) (a .start) _ _ _ (c .before .before .before .from-sid .ensures) (c .before .before .flow-octet .ensures)
+    ∙ through-container (a .direction) (a .prefix) (a .start) _ _ _ (c .before .before .before .from-sid .ensures)
+    (c .before .before .flow-octet .ensures)
     (c .before .teid .ensures)
 
 pub own-args-spec : {M : Type 1} → statement M

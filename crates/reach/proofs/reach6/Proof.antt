@@ -11,7 +11,9 @@ use Rattle.reach.proofs.reach6.Statement.{statement}
 use Rattle.reach.proofs.reach6.Tie as tie
 
 abbrev Inv-loop : tie.InvT-loop
-Inv-loop table direction sid start count found₀ i₀ found i = (i ≤ count) × (found ≡ longest (entryReached6 table direction sid start) (entryBits table) i)
+Inv-loop table direction sid start count found₀ i₀ found i =
+    (i ≤ count)
+    × (found ≡ longest (entryReached6 table direction sid start) (entryBits table) i)
 
 abbrev μ-loop : tie.MeasureT-loop
 μ-loop table direction sid start count found₀ i₀ found i = count - i

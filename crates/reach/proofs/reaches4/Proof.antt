@@ -24,7 +24,8 @@ returns c =
     let p = c12 .before .before .wide .ensures .0 in
     let to = c12 .window4 .ensures ∙ ap (λ (k : ℕ). window (a .t2) k 4) p in
     let args = c6 .before .before .before .before .own-args .ensures in
-    let own = c6 .before .before .before .sid-of .ensures ∙ (λ i. withArgs (addressBehind (window r 16 16) (octet r 4) (to i)) n (args i)) in
+    let own =
+    c6 .before .before .before .sid-of .ensures ∙ (λ i. withArgs (addressBehind (window r 16 16) (octet r 4) (to i)) n (args i)) in
     let left = c .before .before .before .before .before .less .ensures ∙ (λ i. a .bits - 8 * p i) in
     let both = c .before .before .before .before .smaller .ensures ∙ (λ i. smaller (c6 .wide2 .ensures .0 i) (left i)) in
     λ i. (c .before .before .before .lies-under .ensures ∙ (λ j. under 16 (own j) (a .t2) (a .bits))) i
