@@ -8,10 +8,9 @@ ghost use Rattle.rules.specs.Assigned.{downlink};
 ghost use Rattle.rules.specs.Args.{firstOctet, argsOctets, argsAt, withArgs};
 ghost use Rattle.rules.specs.Gtpu.{flowOctet};
 ghost use Rattle.args.specs.Value.{value};
+use rules::assigned::DOWNLINK;
 
 // The container (TS 38.415): QFI is the low six bits of its second content octet, R the bit above them, in downlink only.
-const DOWNLINK: u8 = 0;
-
 const CONTAINER_REFLECTIVE_PLACE: u8 = 64;
 
 // The octets as they stand in a SID: every value is one that a SID can carry.

@@ -5,7 +5,7 @@ use libc::STDOUT_FILENO;
 // Format 1, and no entry, rule or policy.
 const EMPTY: [u8; 16] = [1, 0, 0, 0, 0, 0, 0, 0, 0, 0, 0, 0, 0, 0, 0, 0];
 
-fn print_answer(a: gateway::answer::Answer) {
+fn print_answer(a: answer::Answer) {
     io::print_decimal(STDOUT_FILENO, a.number as u64);
     io::write_all(STDOUT_FILENO, &[b' ']);
     io::print_decimal(STDOUT_FILENO, a.size as u64);

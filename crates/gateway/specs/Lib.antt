@@ -1,4 +1,1 @@
-pub mod Answered
-pub mod Sight
-pub mod Heads
-pub mod Parts
+pub mod Decided

@@ -1,4 +1,5 @@
--- A datagram read by its first 24 octets, a row that a callee answers, and a datagram put before its inner packet.
+-- A datagram read by its first 24 octets and its first extension header, rows as callees answer them, and a datagram put before its inner
+-- packet.
 use mathlib.Core.Path.{_≡_, sym, ap, _∙_}
 use mathlib.Core.Bool.{Bool, true, cond}
 use mathlib.Core.List.{List, [], _∷_, _++_, append-assoc}
@@ -8,52 +9,83 @@ use lib.Dec.{eqb}
 use lib.ListN.{length, drop, length-drop}
 use Rattle.rules.specs.Octets.{octet, window, put16}
 use Rattle.rules.specs.Assigned.{downlink, gPdu, pduSessionContainer}
-use Rattle.rules.specs.Answer.{Row, any, verdict}
+use Rattle.rules.specs.Answer.{Row, row, any, verdict, first}
 use Rattle.rules.specs.Args.{Args}
 use Rattle.rules.specs.Gtpu as Gtpu
 use Rattle.rules.specs.Gtpu.{udp, flowOctet, gtpuFlags, datagramBefore, datagramOctets}
-use Rattle.rules.specs.Datagram.{datagramOf, datagram}
+use Rattle.rules.specs.Datagram.{datagram, badUdp, badGtpu, messageRows}
+use Rattle.rules.specs.declared.Datagram.{Datagram}
 use Rattle.rules.specs.declared.Refusal.{Refusal}
 use Rattle.rules.specs.declared.Verdict.{Verdict}
-use Rattle.rules.specs.declared.Verdict.the-variants.{Refuse}
+use Rattle.rules.specs.declared.Verdict.the-variants.{Pass, Refuse}
 use Rattle.rules.proofs.Windows.{window-drop}
-use Rattle.rules.proofs.Judging.{row-yes, judged}
+use Rattle.rules.proofs.Judging.{row-yes, judged, verdict-append}
 use Rattle.args.proofs.Laws.{window-all}
+use Rattle.gtpu.specs.Extension.{extensionAfter, fieldsOf, firstPlace}
+use Rattle.gtpu.specs.Reading.{viewOf, argsOf}
+use Rattle.gtpu.specs.declared.extension.Fields.{Fields}
+use Rattle.gtpu.specs.declared.extension.Extension.{Extension}
+use Rattle.gtpu.proofs.Extensions.{fieldsIn, fields-read, content-read, following-read}
 
 -- READING
 
+-- a window of a packet, told from where the datagram begins
 window-at : (p : List ℕ) (at n : ℕ) → window p at n ≡ window (drop at p) 0 n
 window-at p at n = ap (λ (k : ℕ). window p k n) (sym (add-zero at)) ∙ sym (window-drop p at 0 n)
 
--- from what the readers say
-pub datagram-read : (p f : List ℕ) (at n t : ℕ) → f ≡ window p at 24 → n ≡ length p - at → t ≡ Gtpu.followingType (drop at p) → datagramOf f n t ≡ datagram (drop at p)
+-- the view, from what the readers say, with the GTP-U message g
+pub view-read : (p f g : List ℕ) (at n k t : ℕ) (e : Extension) (x : Fields) → f ≡ window p at 24 → n ≡ length p - at
+    → g ≡ drop (at + 8) p → e ≡ extensionAfter g firstPlace → x ≡ fieldsOf e → k ≡ octet g (x .contents) → t ≡ octet g (x .next)
+    → viewOf f n x k t ≡ datagram (drop at p)
 unfolding datagram window
-datagram-read p f at n t hf hn ht =
-    let e : f ≡ window (drop at p) 0 24 = hf ∙ window-at p at 24 in
-    let size : n ≡ length (drop at p) = hn ∙ sym (length-drop at p) in
-    λ i. datagramOf (e i) (size i) (ht i)
+view-read p f g at n k t e x hf hn hg he hx hk ht =
+    let u : List ℕ = drop at p in
+    let front : f ≡ window u 0 24 = hf ∙ window-at p at 24 in
+    let size : n ≡ length u = hn ∙ sym (length-drop at p) in
+    let fields : x ≡ fieldsIn u = fields-read p g at hg e x he hx in
+    let content : k ≡ octet u 21 = content-read p g at hg x k fields hk in
+    let following : t ≡ Gtpu.followingType u = following-read p g at hg x t fields ht in
+    λ i. viewOf (front i) (size i) (fields i) (content i) (following i)
 
-abbrev argsOf : List ℕ → Args
-argsOf u = record { qfi = Gtpu.qfi u; reflective = Gtpu.reflective u; teid = Gtpu.teid u }
-
+-- what is carried, from the window
 pub args-read : (p f : List ℕ) (at direction : ℕ) (teid : List ℕ) → f ≡ window p at 24 → direction ≡ Gtpu.pduType f → teid ≡ Gtpu.teid f
-    → _≡_ {A = Args} (record { qfi = Gtpu.qfi f; reflective = cond (eqb direction downlink) (Gtpu.reflectiveBit f) 0; teid = teid }) (argsOf (drop at p))
+    → _≡_ {A = Args} (record { qfi = Gtpu.qfi f; reflective = cond (eqb direction downlink) (Gtpu.reflectiveBit f) 0; teid = teid })
+    (argsOf (drop at p))
 unfolding window
 args-read p f at direction teid hf hd ht =
-    (λ i. record { qfi = Gtpu.qfi f; reflective = cond (eqb (hd i) downlink) (Gtpu.reflectiveBit f) 0; teid = ht i }) ∙ ap argsOf (hf ∙ window-at p at 24)
+    (λ i. record { qfi = Gtpu.qfi f; reflective = cond (eqb (hd i) downlink) (Gtpu.reflectiveBit f) 0; teid = ht i })
+    ∙ ap argsOf (hf ∙ window-at p at 24)
 
 -- JUDGING
 
 -- a row that answers, where a callee made the answer
-pub row-by : (bs : List Bool) (ρ : Refusal) (rs : List Row) (z : Verdict) → z ≡ Refuse ρ → any bs ≡ true → z ≡ verdict (record { tests = bs; refusal = ρ } ∷ rs)
-row-by bs ρ rs z p e = p ∙ row-yes bs ρ rs e
+pub row-by : (bs : List Bool) (ρ σ : Refusal) (rs : List Row) → σ ≡ ρ → any bs ≡ true
+    → Refuse σ ≡ verdict (record { tests = bs; refusal = ρ } ∷ rs)
+row-by bs ρ σ rs p e = ap Refuse p ∙ row-yes bs ρ rs e
 
 pub ruleset judged-by = (judged, row-by)
+
+-- a row that a callee judges alone, before more rows: it refuses, or they decide
+module _ (r : Row) (rs : List Row) (v : Verdict) (judged : v ≡ verdict (r ∷ [])) where
+  alone : verdict (r ∷ rs) ≡ first v (verdict rs)
+  alone = verdict-append (r ∷ []) rs ∙ ap (λ (v : Verdict). first v (verdict rs)) (sym judged)
+
+  pub alone-refused : (ρ : Refusal) → v ≡ Refuse ρ → Refuse ρ ≡ verdict (r ∷ rs)
+  alone-refused ρ e = sym (alone ∙ ap (λ (v : Verdict). first v (verdict rs)) e)
+
+  pub alone-passed : (w : Verdict) → v ≡ Pass → w ≡ verdict rs → w ≡ verdict (r ∷ rs)
+  alone-passed w e p = p ∙ sym (alone ∙ ap (λ (v : Verdict). first v (verdict rs)) e)
+
+-- rows 9 and 10, which are judged alone
+pub message-verdict : (g : Datagram) → verdict (messageRows g) ≡ first (verdict (row (badUdp g) 9 ∷ [])) (verdict (row (badGtpu g) 10 ∷ []))
+unfolding messageRows
+message-verdict g = verdict-append (row (badUdp g) 9 ∷ []) (row (badGtpu g) 10 ∷ [])
 
 -- WRITING
 
 -- from the octets of the TEID, one by one
-pub datagram-written : (port direction size flow : ℕ) (teid : List ℕ) (x : Args) → length teid ≡ 4 → teid ≡ x .teid → flow ≡ flowOctet direction (x .qfi) (x .reflective)
+pub datagram-written : (port direction size flow : ℕ) (teid : List ℕ) (x : Args) → length teid ≡ 4 → teid ≡ x .teid
+    → flow ≡ flowOctet direction (x .qfi) (x .reflective)
     → udp port (24 + size) 0
     (gtpuFlags ∷ gPdu ∷ put16 (8 + size)
     (octet teid 0 ∷ octet teid 1 ∷ octet teid 2 ∷ octet teid 3
@@ -67,5 +99,6 @@ datagram-written port direction size flow teid x l t f =
     (e i ++ (0 ∷ 0 ∷ 0 ∷ pduSessionContainer ∷ 1 ∷ (direction * 16) ∷ f i ∷ 0 ∷ [])))
 
 -- with its inner packet
-pub datagram-whole : (port direction : ℕ) (x : Args) (inner : List ℕ) → datagramBefore port direction x (length inner) [] ++ inner ≡ datagramOctets port direction x inner
+pub datagram-whole : (port direction : ℕ) (x : Args) (inner : List ℕ)
+    → datagramBefore port direction x (length inner) [] ++ inner ≡ datagramOctets port direction x inner
 datagram-whole port direction x inner = rw append-assoc

@@ -1,11 +1,12 @@
 -- The extension header that follows a place of a GTP-U message (TS 29.281, 5.2.1): the octet at the place is its type, the next one its
--- length in units of four octets, and its last octet is the next place.
+-- length in units of four octets, then come its contents, and its last octet is the next place.
 use mathlib.Core.Bool.{Bool, cond, _||_}
 use mathlib.Core.List.{List}
 use Prim.Native.Nat.{ℕ, _+_, _*_}
 use lib.Dec.{eqb, leb}
 use lib.ListN.{length}
 use Rattle.rules.specs.Octets.{octet}
+use Rattle.gtpu.specs.declared.extension.Fields.{Fields}
 use Rattle.gtpu.specs.declared.extension.Extension.{Extension}
 use Rattle.gtpu.specs.declared.extension.Extension.the-variants.{End, Header, Refused}
 
@@ -13,26 +14,29 @@ use Rattle.gtpu.specs.declared.extension.Extension.the-variants.{End, He
 abbrev pub firstPlace : ℕ
 firstPlace = 11
 
-abbrev pub typeAt : List ℕ → ℕ → ℕ
-typeAt g at = octet g at
-
+-- the unit count of the header that follows a place
 abbrev pub unitsAt : List ℕ → ℕ → ℕ
 unitsAt g at = octet g (at + 1)
 
+-- where the unit count leads
 abbrev pub nextPlace : List ℕ → ℕ → ℕ
 nextPlace g at = at + 4 * unitsAt g at
+
+-- what stands at a place, whatever follows
+abbrev pub fieldsAt : List ℕ → ℕ → Fields
+fieldsAt g at = record { kind = octet g at; units = unitsAt g at; contents = at + 2; next = nextPlace g at }
 
 -- unit count 0 or past the end (row 12)
 abbrev pub badUnits : List ℕ → ℕ → Bool
 badUnits g at = eqb (unitsAt g at) 0 || leb (length g) (nextPlace g at)
 
+-- what follows a place: nothing where the type is 0
 unfoldable pub extensionAfter : List ℕ → ℕ → Extension
 extensionAfter g at =
-    cond (eqb (typeAt g at) 0) (End (nextPlace g at))
-    (cond (badUnits g at) (Refused (typeAt g at) (nextPlace g at)) (Header (typeAt g at) (at + 2) (nextPlace g at)))
+    cond (eqb (octet g at) 0) (End (fieldsAt g at)) (cond (badUnits g at) (Refused (fieldsAt g at)) (Header (fieldsAt g at)))
 
--- where the unit count leads
-unfoldable pub behindOf : Extension → ℕ
-behindOf (End next) = next
-behindOf (Header kind contents next) = next
-behindOf (Refused kind next) = next
+-- the fields of every case
+unfoldable pub fieldsOf : Extension → Fields
+fieldsOf (End fields) = fields
+fieldsOf (Header fields) = fields
+fieldsOf (Refused fields) = fields

@@ -3,19 +3,27 @@
 // A place is that of an octet which says what type of header follows. The second octet behind it begins that header's contents, and the
 // last octet of the header is the next place.
 ghost use mathlib.Core.Path.{_≡_};
-ghost use Rattle.gtpu.specs.Extension.{extensionAfter, behindOf, firstPlace};
+ghost use Prim.Native.Nat.{_<_};
+ghost use Rattle.gtpu.specs.Extension.{extensionAfter, fieldsOf, firstPlace};
 
 // The octet of a GTP-U message that says the type of its first extension header.
 const FIRST_PLACE: usize = 11;
 
-// What follows a place. The last number is where the unit count leads, also where no header stands: what is read of a message is total.
+// What stands at a place: the type, the unit count, where the contents begin, and the next place.
+pub struct Fields {
+    pub kind: u8,
+    pub units: u8,
+    pub contents: usize,
+    pub next: usize,
+}
+
+// What follows a place. Every case has the fields: what is read of a message is total, and past the end it is 0.
 pub enum Extension {
     // type 0: no header
-    End(usize),
-    // a header: its type, where its contents begin, the next place
-    Header(u8, usize, usize),
-    // a header of no units, or one that reaches past the end: its type
-    Refused(u8, usize),
+    End(Fields),
+    Header(Fields),
+    // a header of no units, or one that reaches past the end
+    Refused(Fields),
 }
 
 // A place in a GTP-U message.
@@ -26,26 +34,31 @@ pub struct ExtensionReader<'a> {
 
 // What follows a place of a slice. The reader's work is done here, where no function holds a reference in a struct.
 fn extension_after(gtp: &[u8], at: usize) -> Extension
+    requires { ⌜ at < 65536 ⌝ }
     ensures { λ r. ⌜ r ≡ extensionAfter (now (gtp .entry)) at ⌝ }
 {
-    if gtp.len() <= at {
-        return Extension::End(at);
-    }
-    let kind = gtp[at];
+    let kind = octets::octet_or_0(gtp, at);
     let units = octets::octet_or_0(gtp, at + 1);
     let next = at + 4 * octets::wide(units);
+    let fields = Fields {
+        kind,
+        units,
+        contents: at + 2,
+        next,
+    };
     if kind == 0 {
-        return Extension::End(next);
+        return Extension::End(fields);
     }
     if units == 0 {
-        return Extension::Refused(kind, next);
+        return Extension::Refused(fields);
     }
     if gtp.len() <= next {
-        return Extension::Refused(kind, next);
+        return Extension::Refused(fields);
     }
-    Extension::Header(kind, at + 2, next)
+    Extension::Header(fields)
 }
 
+// A reader at the first place of a message.
 fn new<'a>(gtp: &'a [u8]) -> ExtensionReader<'a>
     ensures { λ r. ⌜ (r .gtp ≡ gtp .entry) × (r .at ≡ firstPlace) ⌝ }
 {
@@ -55,7 +68,9 @@ fn new<'a>(gtp: &'a [u8]) -> ExtensionReader<'a>
     }
 }
 
+// What follows the reader's place.
 fn step<'a>(r: ExtensionReader<'a>) -> Extension
+    requires { ⌜ r .at < 65536 ⌝ }
     ensures { λ e. ⌜ e ≡ extensionAfter (now (r .entry .gtp)) (r .entry .at) ⌝ }
 {
     extension_after(r.gtp, r.at)
@@ -68,13 +83,13 @@ pub fn first(gtp: &[u8]) -> Extension
     step(new(gtp))
 }
 
-// Where the unit count leads.
-pub fn behind(e: Extension) -> usize
-    ensures { λ r. ⌜ r ≡ behindOf e ⌝ }
+// The fields of every case.
+pub fn fields_of(e: Extension) -> Fields
+    ensures { λ r. ⌜ r ≡ fieldsOf e ⌝ }
 {
     match e {
-        Extension::End(next) => next,
-        Extension::Header(kind, contents, next) => next,
-        Extension::Refused(kind, next) => next,
+        Extension::End(fields) => fields,
+        Extension::Header(fields) => fields,
+        Extension::Refused(fields) => fields,
     }
 }

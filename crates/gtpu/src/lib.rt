@@ -1,43 +1,41 @@
-// UDP (RFC 768), GTP-U (TS 29.281) and the PDU Session container (TS 38.415): what is read of a datagram, the tests of rows 8 to 15, and how a G-PDU is written.
+// UDP (RFC 768), GTP-U (TS 29.281) and the PDU Session container (TS 38.415): what is read of a datagram, the tests of rows 8 to 15, and
+// how a G-PDU is written.
+use rules::assigned;
 ghost use mathlib.Core.Path.{_≡_};
 ghost use mathlib.Core.List.{[], _∷_};
 ghost use Prim.Native.Nat.{_+_, _*_, _/_, _≤_, _<_};
 ghost use lib.Dec.{ltb};
 ghost use lib.ListN.{length, drop};
 ghost use Rattle.rules.specs.Assigned.{gPdu};
-ghost use Rattle.rules.specs.Answer.{differs, any, plain, verdict};
-ghost use Rattle.rules.specs.Datagram.{datagramOf, datagram, notGtpu, badUdp, badGtpu, extended, badExtensions, badContainer, badInner, messageRows, gPduRows, innerRows};
+ghost use Rattle.rules.specs.Answer.{row, differs, any, verdict};
+ghost use Rattle.rules.specs.Datagram.{datagram, notGtpu, badUdp, badGtpu, extended, badExtensions, badContainer, badInner};
+ghost use Rattle.rules.specs.Datagram.{gPduRows, innerRows};
 ghost use Rattle.rules.specs.Gtpu as Gtpu;
-ghost use Rattle.rules.specs.declared.Verdict.the-variants.{Refuse};
 ghost use Rattle.octets.specs.Run.{Run};
 ghost use Rattle.args.specs.Value.{value};
+ghost use Rattle.gtpu.specs.Reading.{viewOf, argsOf};
 
 mod extension; // extension.rt: extension headers, read by a reader that stands on the packet
 
-const UDP: u8 = 17;
-
+// The size of a UDP header.
 const UDP_SIZE: usize = 8;
 
-const GTPU_PORT: u16 = 2152;
-
-// Places in a datagram, its UDP header included (TS 29.281, 5.1 and 5.2.1); the message length counts from MESSAGE_AT on.
+// Where the TEID stands in a datagram, its UDP header included (TS 29.281, 5.1).
 const TEID_AT: usize = 12;
 
+// Where the octets begin that the message length counts.
 const MESSAGE_AT: usize = 16;
 
+// Where the first extension header begins, behind the octet with its type (TS 29.281, 5.2.1).
 const EXTENSION_AT: usize = 20;
 
-const G_PDU: u8 = 255;
-
-const PDU_SESSION_CONTAINER: u8 = 0x85;
-
-// What is written: version 1, PT and E, and a container of one unit (house).
+// The flags that are written: version 1, PT and E (house).
 const FLAGS: u8 = 0x20 + 0x10 + 0x04;
 
+// The unit count of the container that is written (house).
 const UNITS: u8 = 1;
 
-const IPV4V6: u8 = 3;
-
+// The TEID of a datagram that begins with `front`.
 fn teid_of(front: [u8; 24]) -> [u8; 4]
     ensures { λ r. ⌜ r ≡ Gtpu.teid front ⌝ }
 {
@@ -63,9 +61,16 @@ fn extension_end(units: u8) -> usize
     EXTENSION_AT + 4 * (units as usize)
 }
 
-// The numbers of a datagram of `size` octets that begins with `front`; `following` is the type behind its first extension.
-pub fn datagram_of(front: [u8; 24], size: usize, following: u8) -> rules::Datagram
-    ensures { λ r. ⌜ r ≡ datagramOf front size following ⌝ }
+// The view of a datagram of `size` octets that begins with `front`, with the fields of its first extension header, the first octet of the
+// header's contents, and the type behind it. A function of its own: as a part of `datagram_at` it would be too much to inline.
+fn datagram_of(
+    front: [u8; 24],
+    size: usize,
+    fields: extension::Fields,
+    content: u8,
+    following: u8,
+) -> rules::Datagram
+    ensures { λ r. ⌜ r ≡ viewOf front size fields content following ⌝ }
 {
     rules::Datagram {
         size,
@@ -75,9 +80,9 @@ pub fn datagram_of(front: [u8; 24], size: usize, following: u8) -> rules::Datagr
         messageType: front[9],
         messageLength: octets::join16(front[10], front[11]),
         teid: teid_of(front),
-        extensionType: front[EXTENSION_AT - 1],
-        extensionUnits: front[EXTENSION_AT],
-        pduType: pdu_type(front[EXTENSION_AT + 1]),
+        extensionType: fields.kind,
+        extensionUnits: fields.units,
+        pduType: pdu_type(content),
         followingType: following,
     }
 }
@@ -92,56 +97,51 @@ fn within(packet: &[u8], at: usize) -> usize
     at
 }
 
-// The type behind the first extension of a datagram that begins at octet `at` of a packet: the GTP-U message is a part of the packet.
-fn following_type(packet: &[u8], at: usize) -> u8
-    requires { ⌜ at < 65536 ⌝ }
-    ensures { λ r. ⌜ r ≡ Gtpu.followingType (drop at (now (packet .entry))) ⌝ }
-{
-    let start = within(packet, at + UDP_SIZE);
-    let gtp = &packet[start..];
-    octets::octet_or_0(gtp, extension::behind(extension::first(gtp)))
-}
-
-// The datagram that begins at octet `at` of a packet.
+// The view of the datagram that begins at octet `at` of a packet; all that it has of an extension header is found by the reader's step.
 pub fn datagram_at(packet: &[u8], at: usize) -> rules::Datagram
     requires { ⌜ at < 65536 ⌝ }
     ensures { λ r. ⌜ r ≡ datagram (drop at (now (packet .entry))) ⌝ }
 {
     let front = octets::window24(packet, at);
-    let size = octets::less(packet.len(), at);
-    let following = following_type(packet, at);
-    datagram_of(front, size, following)
+    let size = octets::saturating_sub(packet.len(), at);
+    let start = within(packet, at + UDP_SIZE);
+    let gtp = &packet[start..];
+    let fields = extension::fields_of(extension::first(gtp));
+    let content = octets::octet_or_0(gtp, fields.contents);
+    let following = octets::octet_or_0(gtp, fields.next);
+    datagram_of(front, size, fields, content, following)
 }
 
 // Row 8: the port is read only if 8 octets are there.
 pub fn not_gtpu(protocol: u8, g: rules::Datagram) -> bool
     ensures { λ r. ⌜ r ≡ any (notGtpu protocol g) ⌝ }
 {
-    (protocol != UDP) | ((UDP_SIZE <= g.size) & ((g.destinationPort != GTPU_PORT) | false))
+    (protocol != assigned::UDP_PROTOCOL)
+        | ((UDP_SIZE <= g.size) & (g.destinationPort != assigned::GTPU_PORT))
 }
 
 // Row 9.
-fn bad_udp(g: rules::Datagram) -> bool
+pub fn bad_udp(g: rules::Datagram) -> bool
     ensures { λ r. ⌜ r ≡ any (badUdp g) ⌝ }
 {
-    (g.size < UDP_SIZE) | ((g.length as usize != g.size) | false)
+    (g.size < UDP_SIZE) | (g.length as usize != g.size)
 }
 
 // Row 10: version 1 and PT are the high four bits; with any of E, S and PN, the low three, four octets more are there.
-fn bad_gtpu(g: rules::Datagram) -> bool
+pub fn bad_gtpu(g: rules::Datagram) -> bool
     ensures { λ r. ⌜ r ≡ any (badGtpu g) ⌝ }
 {
     (g.size < MESSAGE_AT)
         | ((g.flags / 16 != 3)
             | ((MESSAGE_AT + g.messageLength as usize != g.size)
-                | ((0 < g.flags % 8) & ((g.size < EXTENSION_AT) | false))))
+                | ((0 < g.flags % 8) & (g.size < EXTENSION_AT))))
 }
 
 // Row 11.
-fn not_gpdu(g: rules::Datagram) -> bool
+pub fn not_gpdu(g: rules::Datagram) -> bool
     ensures { λ r. ⌜ r ≡ any (differs (g .messageType) gPdu ∷ []) ⌝ }
 {
-    (g.messageType != G_PDU) | false
+    g.messageType != assigned::G_PDU
 }
 
 // E is set and a type follows.
@@ -156,23 +156,23 @@ fn bad_extensions(g: rules::Datagram) -> bool
     ensures { λ r. ⌜ r ≡ any (badExtensions g) ⌝ }
 {
     is_extended(g)
-        & ((g.extensionType != PDU_SESSION_CONTAINER)
+        & ((g.extensionType != assigned::PDU_SESSION_CONTAINER)
             | ((g.extensionUnits == 0)
-                | ((g.size < extension_end(g.extensionUnits)) | ((g.followingType != 0) | false))))
+                | ((g.size < extension_end(g.extensionUnits)) | (g.followingType != 0))))
 }
 
 // Row 13.
 fn bad_container(direction: u8, g: rules::Datagram) -> bool
     ensures { λ r. ⌜ r ≡ any (badContainer direction g) ⌝ }
 {
-    (!is_extended(g)) | ((g.pduType != direction) | false)
+    (!is_extended(g)) | (g.pduType != direction)
 }
 
 // Row 14: an inner packet of `size` octets with the octet `first` in front.
 fn bad_inner(session: u8, size: usize, first: u8) -> bool
     ensures { λ r. ⌜ r ≡ any (badInner session size first) ⌝ }
 {
-    (session == IPV4V6) & ((size == 0) | (((first / 16 != 4) & (first / 16 != 6)) | false))
+    (session == assigned::IPV4V6_SESSION) & ((size == 0) | ((first / 16 != 4) & (first / 16 != 6)))
 }
 
 // Row 15.
@@ -182,63 +182,58 @@ fn too_long(field: usize) -> bool
     65535 < field
 }
 
-// A refusal without ICMP fields.
-fn refuse(number: u8) -> rules::Verdict
-    ensures { λ r. ⌜ r ≡ Refuse (plain number) ⌝ }
-{
-    rules::Verdict::Refuse(rules::Refusal {
-        number,
-        icmpType: 0,
-        icmpCode: 0,
-        pointer: 0,
-    })
-}
-
-// Rows 9 and 10.
-pub fn judge_message(g: rules::Datagram) -> rules::Verdict
-    ensures { λ r. ⌜ r ≡ verdict (messageRows g) ⌝ }
+// The verdict of row 9.
+pub fn judge_udp(g: rules::Datagram) -> rules::Verdict
+    ensures { λ r. ⌜ r ≡ verdict (row (badUdp g) 9 ∷ []) ⌝ }
 {
     if bad_udp(g) {
-        return refuse(9);
-    }
-    if bad_gtpu(g) {
-        return refuse(10);
+        return rules::Verdict::Refuse(rules::Refusal::bad_udp());
     }
     rules::Verdict::Pass
 }
 
-// Rows 11 to 13.
+// The verdict of row 10.
+pub fn judge_gtpu(g: rules::Datagram) -> rules::Verdict
+    ensures { λ r. ⌜ r ≡ verdict (row (badGtpu g) 10 ∷ []) ⌝ }
+{
+    if bad_gtpu(g) {
+        return rules::Verdict::Refuse(rules::Refusal::bad_gtpu());
+    }
+    rules::Verdict::Pass
+}
+
+// The verdict of rows 11 to 13.
 pub fn judge_gpdu(direction: u8, g: rules::Datagram) -> rules::Verdict
     ensures { λ r. ⌜ r ≡ verdict (gPduRows direction g) ⌝ }
 {
     if not_gpdu(g) {
-        return refuse(11);
+        return rules::Verdict::Refuse(rules::Refusal::not_gpdu());
     }
     if bad_extensions(g) {
-        return refuse(12);
+        return rules::Verdict::Refuse(rules::Refusal::bad_extensions());
     }
     if bad_container(direction, g) {
-        return refuse(13);
+        return rules::Verdict::Refuse(rules::Refusal::bad_container());
     }
     rules::Verdict::Pass
 }
 
-// Rows 14 and 15; `field` is the length field of what is to be sent.
+// The verdict of rows 14 and 15; `field` is the length field of what is to be sent.
 pub fn judge_inner(session: u8, size: usize, first: u8, field: usize) -> rules::Verdict
     ensures { λ r. ⌜ r ≡ verdict (innerRows session size first field) ⌝ }
 {
     if bad_inner(session, size, first) {
-        return refuse(14);
+        return rules::Verdict::Refuse(rules::Refusal::bad_inner());
     }
     if too_long(field) {
-        return refuse(15);
+        return rules::Verdict::Refuse(rules::Refusal::too_long());
     }
     rules::Verdict::Pass
 }
 
 // What a G-PDU carries beside its inner packet, of the datagram that begins at octet `at` of a packet.
 pub fn args_at(packet: &[u8], at: usize) -> args::Args
-    ensures { λ r. ⌜ value r ≡ record { qfi = Gtpu.qfi (drop at (now (packet .entry))); reflective = Gtpu.reflective (drop at (now (packet .entry))); teid = Gtpu.teid (drop at (now (packet .entry))) } ⌝ }
+    ensures { λ r. ⌜ value r ≡ argsOf (drop at (now (packet .entry))) ⌝ }
 {
     let front = octets::window24(packet, at);
     let direction = pdu_type(front[EXTENSION_AT + 1]);
@@ -270,14 +265,14 @@ pub fn put_datagram(
     let head = [
         (port / 256) as u8,
         (port % 256) as u8,
-        (GTPU_PORT / 256) as u8,
-        (GTPU_PORT % 256) as u8,
+        (assigned::GTPU_PORT / 256) as u8,
+        (assigned::GTPU_PORT % 256) as u8,
         (all / 256) as u8,
         (all % 256) as u8,
         0,
         0,
         FLAGS,
-        G_PDU,
+        assigned::G_PDU,
         (message / 256) as u8,
         (message % 256) as u8,
         teid[0],
@@ -287,7 +282,7 @@ pub fn put_datagram(
         0,
         0,
         0,
-        PDU_SESSION_CONTAINER,
+        assigned::PDU_SESSION_CONTAINER,
         UNITS,
         direction * 16,
         args.flow_octet(direction),

@@ -6,21 +6,20 @@ ghost use Prim.Native.Nat.{_+_, _-_, _*_, _/_, _%_, _≤_, _<_};
 ghost use lib.Dec.{eqb};
 ghost use lib.ListN.{length};
 ghost use Rattle.rules.specs.Answer.{any};
+ghost use Rattle.rules.specs.Assigned.{routingHeader};
 ghost use Rattle.rules.specs.Header.{headerOf, malformed, badSrh, badChain, hasSrh, beyondHeld, segmentsRemain};
-ghost use Rattle.rules.specs.D4.{header4Of, malformed4, badHeader4};
+ghost use Rattle.rules.specs.Header4.{header4Of, malformed4, badHeader4};
 ghost use Rattle.rules.specs.Octets.{window};
 ghost use Rattle.rules.specs.Ipv6.{ipv6};
 ghost use Rattle.rules.specs.Ipv4.{ipv4};
 ghost use Rattle.rules.specs.Checksum.{onesSum};
 ghost use Rattle.octets.specs.Run.{Run};
 
-const ROUTING_HEADER: u8 = 43;
-
 // Where the upper layer begins: behind the SRH, or behind the IPv6 header.
 fn upper_at(next: u8, units: u8) -> u16
-    ensures { λ r. ⌜ r ≡ cond (eqb next 43) (48 + 8 * units) 40 ⌝ }
+    ensures { λ r. ⌜ r ≡ cond (eqb next routingHeader) (48 + 8 * units) 40 ⌝ }
 {
-    if next == ROUTING_HEADER {
+    if next == rules::assigned::ROUTING_HEADER {
         48 + 8 * (units as u16)
     } else {
         40
@@ -28,9 +27,13 @@ fn upper_at(next: u8, units: u8) -> u16
 }
 
 fn upper_of(next: u8, after: u8) -> u8
-    ensures { λ r. ⌜ r ≡ cond (eqb next 43) after next ⌝ }
+    ensures { λ r. ⌜ r ≡ cond (eqb next routingHeader) after next ⌝ }
 {
-    if next == ROUTING_HEADER { after } else { next }
+    if next == rules::assigned::ROUTING_HEADER {
+        after
+    } else {
+        next
+    }
 }
 
 fn traffic_class(a: u8, b: u8) -> u8
@@ -65,13 +68,13 @@ pub fn header_of(front: [u8; 48], size: usize) -> rules::Header
 pub fn is_malformed(h: rules::Header) -> bool
     ensures { λ r. ⌜ r ≡ any (malformed h) ⌝ }
 {
-    (h.size < 40) | ((h.version != 6) | ((40 + h.payloadLength as usize != h.size) | false))
+    (h.size < 40) | ((h.version != 6) | (40 + h.payloadLength as usize != h.size))
 }
 
 pub fn has_srh(h: rules::Header) -> bool
     ensures { λ r. ⌜ r ≡ hasSrh h ⌝ }
 {
-    h.nextHeader == 43
+    h.nextHeader == rules::assigned::ROUTING_HEADER
 }
 
 // What is wrong with an SRH, in row 5.
@@ -79,20 +82,24 @@ fn bad_srh(h: rules::Header) -> bool
     ensures { λ r. ⌜ r ≡ any (badSrh h) ⌝ }
 {
     (h.size < 48)
-        | ((h.routingType != 4)
+        | ((h.routingType != rules::assigned::SEGMENT_ROUTING)
             | ((h.size < h.upperAt as usize)
-                | ((h.upper == 0)
-                    | ((h.upper == 44) | ((h.upper == 60) | ((h.upper == 43) | false))))))
+                | ((h.upper == rules::assigned::HOP_BY_HOP)
+                    | ((h.upper == rules::assigned::FRAGMENT_HEADER)
+                        | ((h.upper == rules::assigned::DESTINATION_OPTIONS)
+                            | (h.upper == rules::assigned::ROUTING_HEADER))))))
 }
 
 // Row 5.
 pub fn bad_chain(h: rules::Header) -> bool
     ensures { λ r. ⌜ r ≡ any (badChain h) ⌝ }
 {
-    if h.nextHeader == ROUTING_HEADER {
+    if h.nextHeader == rules::assigned::ROUTING_HEADER {
         return bad_srh(h);
     }
-    (h.nextHeader == 0) | ((h.nextHeader == 44) | (h.nextHeader == 60))
+    (h.nextHeader == rules::assigned::HOP_BY_HOP)
+        | ((h.nextHeader == rules::assigned::FRAGMENT_HEADER)
+            | (h.nextHeader == rules::assigned::DESTINATION_OPTIONS))
 }
 
 // LE beyond the segments held.
@@ -106,7 +113,7 @@ pub fn beyond_held(h: rules::Header) -> bool
 pub fn segments_remain(h: rules::Header) -> bool
     ensures { λ r. ⌜ r ≡ any (segmentsRemain h) ⌝ }
 {
-    (h.nextHeader == 43) & ((h.segmentsLeft != 0) | false)
+    (h.nextHeader == rules::assigned::ROUTING_HEADER) & (h.segmentsLeft != 0)
 }
 
 // The IPv6 header, at the front of out: flow label 0 (house).
@@ -148,7 +155,8 @@ fn folded(total: u32) -> u16
 
 // The sum of five 16-bit words.
 fn five(a: u8, b: u8, c: u8, d: u8, e: u8, f: u8, g: u8, h: u8, i: u8, j: u8) -> u32
-    ensures { λ r. ⌜ (r ≡ a * 256 + b + (c * 256 + d + (e * 256 + f + (g * 256 + h + (i * 256 + j))))) × (r < 327680) × (a < 256) × (b < 256) × (c < 256) × (d < 256) × (e < 256) × (f < 256) × (g < 256) × (h < 256) × (i < 256) × (j < 256) ⌝ }
+    ensures { λ r. ⌜ (r ≡ a * 256 + b + (c * 256 + d + (e * 256 + f + (g * 256 + h + (i * 256 + j))))) × (r < 327680)
+        × (a < 256) × (b < 256) × (c < 256) × (d < 256) × (e < 256) × (f < 256) × (g < 256) × (h < 256) × (i < 256) × (j < 256) ⌝ }
 {
     (a as u32) * 256
         + (b as u32)
@@ -210,7 +218,7 @@ pub fn header4_of(front: [u8; 20], size: usize) -> rules::Header4
 pub fn is_malformed4(h: rules::Header4) -> bool
     ensures { λ r. ⌜ r ≡ any (malformed4 h) ⌝ }
 {
-    (h.size < 20) | ((h.version != 4) | ((h.totalLength as usize != h.size) | false))
+    (h.size < 20) | ((h.version != 4) | (h.totalLength as usize != h.size))
 }
 
 // Row 3.
@@ -218,7 +226,7 @@ pub fn bad_header4(h: rules::Header4) -> bool
     ensures { λ r. ⌜ r ≡ any (badHeader4 h) ⌝ }
 {
     (h.headerLength != 5)
-        | ((h.headerSum != 0xffff) | ((h.moreFragments != 0) | ((h.fragmentOffset != 0) | false)))
+        | ((h.headerSum != 0xffff) | ((h.moreFragments != 0) | (h.fragmentOffset != 0)))
 }
 
 // The IPv4 header, at the front of out: no options, identification 0, DF set, right checksum (house); UDP.
@@ -238,7 +246,7 @@ pub fn put_ipv4(out: &mut [u8], tos: u8, total: u16, ttl: u8, source: [u8; 4], d
         0x40,
         0,
         ttl,
-        17,
+        rules::assigned::UDP_PROTOCOL,
         0,
         0,
         source[0],
@@ -261,7 +269,7 @@ pub fn put_ipv4(out: &mut [u8], tos: u8, total: u16, ttl: u8, source: [u8; 4], d
         0x40,
         0,
         ttl,
-        17,
+        rules::assigned::UDP_PROTOCOL,
         (sum / 256) as u8,
         (sum % 256) as u8,
     ];

@@ -198,6 +198,10 @@ splice-inside o p a x h =
     ∙ sym (append-assoc (take a p ++ x) (drop (a + length x) p) d)
     ∙ sym (splice-front o (splice p a x) ∙ ap (λ (k : ℕ). splice p a x ++ drop k o) (splice-length p a x h))
 
+-- their count, said otherwise
+pub run-count : {o : List ℕ} {a n m : ℕ} {x o′ : List ℕ} → n ≡ m → Run o a n x o′ → Run o a m x o′
+run-count e r = record { holds = r .holds; count = r .count ∙ e }
+
 -- the same octets, said otherwise
 pub run-as : {o : List ℕ} {a n : ℕ} {x y o′ : List ℕ} → Run o a n x o′ → x ≡ y → Run o a n y o′
 run-as {o} {a} {n} {x} {y} {o′} r e = record { holds = r .holds ∙ ap (λ (l : List ℕ). splice o a l) e; count = sym (ap length e) ∙ r .count }

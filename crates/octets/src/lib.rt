@@ -4,6 +4,8 @@ ghost use Prim.Native.Nat.{_+_, _-_, _*_, _≤_, _<_};
 ghost use lib.ListN.{length, drop};
 ghost use Rattle.rules.specs.Octets.{octet, window, splice};
 
+pub mod numbers; // numbers.rt: numbers that stand in octets
+
 // All of src, into out from at on, octet by octet.
 fn copy_octets(out: &mut [u8], at: usize, src: &[u8])
     requires { ⌜ at + length (now src) ≤ length (now out) ⌝ }
@@ -84,7 +86,7 @@ pub fn wide(x: u8) -> usize
 }
 
 // The difference, 0 where b is larger.
-pub fn less(a: usize, b: usize) -> usize
+pub fn saturating_sub(a: usize, b: usize) -> usize
     ensures { λ r. ⌜ r ≡ a - b ⌝ }
 {
     if b < a { a - b } else { 0 }
@@ -147,7 +149,7 @@ pub fn window16(s: &[u8], at: usize) -> [u8; 16]
     ensures { λ r. ⌜ r ≡ window (now (s .entry)) at 16 ⌝ }
 {
     let mut a = [0u8; 16];
-    if less(s.len(), at) < 16 {
+    if saturating_sub(s.len(), at) < 16 {
         copy_rest(&mut a, s, at);
         return a;
     }
@@ -179,7 +181,7 @@ pub fn window24(s: &[u8], at: usize) -> [u8; 24]
     ensures { λ r. ⌜ r ≡ window (now (s .entry)) at 24 ⌝ }
 {
     let mut a = [0u8; 24];
-    if less(s.len(), at) < 24 {
+    if saturating_sub(s.len(), at) < 24 {
         copy_rest(&mut a, s, at);
         return a;
     }

@@ -30,7 +30,7 @@ use Rattle.rules.proofs.Windows.{window-length, octets-window, octets-drop}
 use Rattle.rules.proofs.Rows.{None, read}
 use Rattle.rules.proofs.Entries.{at-di, sent-entry}
 use Rattle.rules.proofs.Longest.{matched-rule}
-use Rattle.rules.proofs.NearGtp6 as Near6
+use Rattle.rules.proofs.NearGtp6D as Near6
 use Rattle.rules.proofs.NearD4 as Near4
 use Rattle.reach.specs.Reach.{Writable, Under}
 use Rattle.pair.specs.Fit.{FitWaypoints, Use, Compatible6, Compatible4}
@@ -95,10 +95,10 @@ module _ (near : Stop) (ss : List Stop) (far : Stop) (ws : List (List ℕ)) (i j
   unfolding atDi
   no-row6 =
       let e = entryAt (near .table) i in
-      let y = policyOf near i in
+      let policy = policyOf near i in
       let d = carried6 p in
       let (front, k) = sent-entry near p (Ipv6.destination p) x endMGtp6DDi i enters6 refl sent in
-      Near6.sent-passed e (diPath y d) (diPacket e y d) p x front (sym (at-di (near .table) e p (c .fits .enters)) ∙ k) .0 .gPdu
+      Near6.sent-passed e (diPath policy d) (diPacket e policy d) p x front (sym (at-di (near .table) e p (c .fits .enters)) ∙ k) .0 .gPdu
 
   writable6 : Writable (Entry.direction (entryAt (near .table) i)) (carried6 p .args)
   unfolding carried6 carriedBy

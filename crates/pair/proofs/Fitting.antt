@@ -22,7 +22,8 @@ use Rattle.rules.specs.declared.Found.the-variants.{At, Nothing}
 use Rattle.rules.proofs.Windows.{window-length, octets-window}
 use Rattle.rules.proofs.Conditions.{sound-parts}
 use Rattle.rules.proofs.Faults.{none-told}
-use Rattle.rules.proofs.Tables.{SoundE6, SoundE4, SoundPolicy, sound-e6, sound-e4, sound-rule, sound-named, sound-policy}
+use Rattle.rules.proofs.Tables.{sound-e6, sound-e4, sound-rule, sound-named, sound-policy}
+use Rattle.rules.specs.SoundRecord.{SoundE6, SoundE4, SoundPolicy}
 use Rattle.rules.proofs.Paths.{addressesAt-length}
 use Rattle.reach.specs.Reach.{Writable, reach6, reach4}
 use Rattle.reach.proofs.Reached.{reach6-below, reach4-below, reach-matches6, reach-matches4, matches-reach6, matches-reach4}
@@ -82,64 +83,67 @@ module _ (near far : List ℕ) (i : ℕ) (on : Octets near) (of : Octets far) wh
       → between6 (entryAt near i) (policyIn near i) (entryAt far j) ≡ 0 → Fits6 near far i j
   between-fits6 j sn sf l k r h =
       let e = entryAt near i in
-      let y = policyIn near i in
+      let policy = policyIn near i in
       let f = entryAt far j in
       let (h₆, b₆) = holds (eqb (Entry.behaviour f) endMGtp6E) 5 _ h in
       let (h₇, b₇) = holds (eqb (Entry.direction f) (Entry.direction e)) 6 _ b₆ in
       let (h₈, b₈) = holds (eqb (Entry.session f) (Entry.session e)) 7 _ b₇ in
-      let (h₉, b₉) = holds (eqb (Entry.start f) (Policy.start y)) 8 _ b₈ in
-      let (h₁₂, _) = holds (ltb (Policy.sidCount y - 1) (Entry.hopLimit e)) 11 _ b₉ in
+      let (h₉, b₉) = holds (eqb (Entry.start f) (Policy.start policy)) 8 _ b₈ in
+      let (h₁₂, _) = holds (ltb (Policy.sidCount policy - 1) (Entry.hopLimit e)) 11 _ b₉ in
       let kind = eqb-true (Entry.behaviour f) endMGtp6E h₆ in
-      let start : Entry.start f ≡ Policy.start y = eqb-true _ _ h₉ in
+      let start : Entry.start f ≡ Policy.start policy = eqb-true _ _ h₉ in
       let q : SoundE6 f =
       sound-e6 (policies far) f
-      (sound-parts entryLimit far sf .entry j (reach6-below far (Entry.direction e) (Policy.lastSid y) (Policy.start y) j r)) kind in
+      (sound-parts entryLimit far sf .entry j
+      (reach6-below far (Entry.direction e) (Policy.lastSid policy) (Policy.start policy) j r)) kind in
       let p = di-policy near i sn l k in
       record {
         nearSound = sn;
         farSound = sf;
         exists = l;
         enters = k;
-        matches = reach-matches6 far (Entry.direction e) (Policy.lastSid y) (Policy.start y) of sf (sid-octets near on i)
+        matches = reach-matches6 far (Entry.direction e) (Policy.lastSid policy) (Policy.start policy) of sf (sid-octets near on i)
             (sid-size near on i) (p .start) (p .whole) j r (rw (← start) (q .before));
         leaves = kind;
         direction = eqb-true _ _ h₇;
         session = eqb-true _ _ h₈;
         start = start;
-        hopLimit = rw (addressesAt-length y 16 (Policy.sidCount y - 1)) (ltb-true _ _ h₁₂);
+        hopLimit = rw (addressesAt-length policy 16 (Policy.sidCount policy - 1)) (ltb-true _ _ h₁₂);
       }
 
   pub mismatch6-fits : mismatch6 near far i ≡ 0 → (j : ℕ) × Fits6 near far i j
   unfolding mismatch6
   mismatch6-fits h =
       let e = entryAt near i in
-      let y = policyIn near i in
+      let policy = policyIn near i in
       let (h₁, b₁) = holds (sound near) 0 _ h in
       let (h₂, b₂) = holds (sound far) 1 _ b₁ in
       let (h₃, b₃) = holds (ltb i (entries near)) 2 _ b₂ in
       let (h₄, b₄) = holds (eqb (Entry.behaviour e) endMGtp6DDi) 3 _ b₃ in
       let (j, (r, b)) =
-      reached-fits (λ j. between6 e y (entryAt far j)) (reach6 far (Entry.direction e) (Policy.lastSid y) (Policy.start y)) b₄ in
+      reached-fits (λ j. between6 e policy (entryAt far j))
+      (reach6 far (Entry.direction e) (Policy.lastSid policy) (Policy.start policy)) b₄ in
       (j, between-fits6 j h₁ h₂ (ltb-true _ _ h₃) (eqb-true _ _ h₄) r b)
 
   pub fits-mismatch6 : (j : ℕ) → Fits6 near far i j → mismatch6 near far i ≡ 0
   unfolding mismatch6
   fits-mismatch6 j f =
       let e = entryAt near i in
-      let y = policyIn near i in
+      let policy = policyIn near i in
       let p = di-policy near i (f .nearSound) (f .exists) (f .enters) in
-      let r : reach6 far (Entry.direction e) (Policy.lastSid y) (Policy.start y) ≡ At j =
-      matches-reach6 far (Entry.direction e) (Policy.lastSid y) (Policy.start y) of (f .farSound) (sid-octets near on i)
+      let r : reach6 far (Entry.direction e) (Policy.lastSid policy) (Policy.start policy) ≡ At j =
+      matches-reach6 far (Entry.direction e) (Policy.lastSid policy) (Policy.start policy) of (f .farSound) (sid-octets near on i)
       (sid-size near on i) (p .start) j (f .matches) in
-      let n : Policy.sidCount y - 1 < Entry.hopLimit e = rw (addressesAt-length y 16 (Policy.sidCount y - 1)) at (f .hopLimit) in
+      let n : Policy.sidCount policy - 1 < Entry.hopLimit e =
+      rw (addressesAt-length policy 16 (Policy.sidCount policy - 1)) at (f .hopLimit) in
       rw (f .nearSound, f .farSound, lt-ltb i (entries near) (f .exists), eq-eqb (Entry.behaviour e) endMGtp6DDi (f .enters), r)
-      (told-nothing entryRecord j (between6 e y (entryAt far j))
+      (told-nothing entryRecord j (between6 e policy (entryAt far j))
       (rw (
         eq-eqb (Entry.behaviour (entryAt far j)) endMGtp6E (f .leaves),
         eq-eqb (Entry.direction (entryAt far j)) (Entry.direction e) (f .direction),
         eq-eqb (Entry.session (entryAt far j)) (Entry.session e) (f .session),
-        eq-eqb (Entry.start (entryAt far j)) (Policy.start y) (f .start),
-        lt-ltb (Policy.sidCount y - 1) (Entry.hopLimit e) n,
+        eq-eqb (Entry.start (entryAt far j)) (Policy.start policy) (f .start),
+        lt-ltb (Policy.sidCount policy - 1) (Entry.hopLimit e) n,
       ) refl))
 
 -- OVER IPV4

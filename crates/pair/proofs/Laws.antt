@@ -58,10 +58,11 @@ module _ (near far : List ℕ) (i : ℕ) where
   not-di6 h g l n = rw (h, g, lt-ltb i (entries near) l, ne-eqb (Entry.behaviour (entryAt near i)) endMGtp6DDi n) refl
 
   pub at-far6 : sound near ≡ true → sound far ≡ true → i < entries near → Entry.behaviour (entryAt near i) ≡ endMGtp6DDi
-      → (e y : List ℕ) → e ≡ entryAt near i → y ≡ policyIn near i
-      → atFar6 e y far ≡ mismatch6 near far i
+      → (e policy : List ℕ) → e ≡ entryAt near i → policy ≡ policyIn near i
+      → atFar6 e policy far ≡ mismatch6 near far i
   unfolding mismatch6
-  at-far6 h g l b e y he hy = rw (h, g, lt-ltb i (entries near) l, eq-eqb (Entry.behaviour (entryAt near i)) endMGtp6DDi b, he, hy) refl
+  at-far6 h g l b e policy he hy =
+      rw (h, g, lt-ltb i (entries near) l, eq-eqb (Entry.behaviour (entryAt near i)) endMGtp6DDi b, he, hy) refl
 
   pub near-unsound4 : sound near ≡ false → 1 ≡ mismatch4 near far i
   unfolding mismatch4

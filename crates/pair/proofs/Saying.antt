@@ -60,21 +60,23 @@ module _ (near far : List ℕ) (i : ℕ) (on : Octets near) (of : Octets far) wh
   abbrev e : List ℕ
   e = entryAt near i
 
-  abbrev y : List ℕ
-  y = policyIn near i
+  abbrev policy : List ℕ
+  policy = policyIn near i
 
-  leads6 : (a : Asked6 near far i) (j : ℕ) → reach6 far (Entry.direction e) (Policy.lastSid y) (Policy.start y) ≡ At j → Leads6 near far i j
+  leads6 : (a : Asked6 near far i) (j : ℕ)
+      → reach6 far (Entry.direction e) (Policy.lastSid policy) (Policy.start policy) ≡ At j → Leads6 near far i j
   leads6 a j r = record {
     asked = a;
-    args = ownArgs (Entry.direction e) (Entry.prefix (entryAt far j)) (Policy.start y);
-    writable = own-writable (Entry.direction e) (Entry.prefix (entryAt far j)) (Policy.start y) (prefix-octets far of j);
-    matches = reach-matches-own6 far (Entry.direction e) (Policy.lastSid y) (Policy.start y) of (a .farSound) (sid-octets near on i)
+    args = ownArgs (Entry.direction e) (Entry.prefix (entryAt far j)) (Policy.start policy);
+    writable = own-writable (Entry.direction e) (Entry.prefix (entryAt far j)) (Policy.start policy) (prefix-octets far of j);
+    matches = reach-matches-own6 far (Entry.direction e) (Policy.lastSid policy) (Policy.start policy) of (a .farSound)
+        (sid-octets near on i)
         (sid-size near on i) (di-policy near i (a .nearSound) (a .exists) (a .enters) .start) j r;
   }
 
   -- 6 to 12
-  said6 : (a : Asked6 near far i) (j : ℕ) → reach6 far (Entry.direction e) (Policy.lastSid y) (Policy.start y) ≡ At j
-      → Says6 near far i (told entryRecord j (between6 e y (entryAt far j)))
+  said6 : (a : Asked6 near far i) (j : ℕ) → reach6 far (Entry.direction e) (Policy.lastSid policy) (Policy.start policy) ≡ At j
+      → Says6 near far i (told entryRecord j (between6 e policy (entryAt far j)))
   said6 a j r =
       let f = entryAt far j in
       let m = leads6 a j r in
@@ -100,7 +102,7 @@ module _ (near far : List ℕ) (i : ℕ) (on : Octets near) (of : Octets far) wh
         start = λ l. absurd (omega arith);
       })
       (eqb-false _ _ h))
-      (λ h₈. asked P (eqb (Entry.start f) (Policy.start y)) 9 _
+      (λ h₈. asked P (eqb (Entry.start f) (Policy.start policy)) 9 _
       (λ h. start6 j (named 8 j)
       (record {
         leads = m;
@@ -110,7 +112,7 @@ module _ (near far : List ℕ) (i : ℕ) (on : Octets near) (of : Octets far) wh
         start = λ l. absurd (omega arith);
       })
       (eqb-false _ _ h))
-      (λ h₉. asked P (ltb (Policy.sidCount y - 1) (Entry.hopLimit e)) 12 0
+      (λ h₉. asked P (ltb (Policy.sidCount policy - 1) (Entry.hopLimit e)) 12 0
       (λ h. hopLimit6 j (named 11 j)
       (record {
         leads = m;
@@ -119,7 +121,7 @@ module _ (near far : List ℕ) (i : ℕ) (on : Octets near) (of : Octets far) wh
         session = λ l. eqb-true _ _ h₈;
         start = λ l. eqb-true _ _ h₉;
       })
-      (rw (addressesAt-length y 16 (Policy.sidCount y - 1)) (ltb-false _ _ h)))
+      (rw (addressesAt-length policy 16 (Policy.sidCount policy - 1)) (ltb-false _ _ h)))
       (λ h₁₂. fit6 (none j) j
       (between-fits6 near far i on of j (a .nearSound) (a .farSound) (a .exists) (a .enters) r (rw (h₆, h₇, h₈, h₉, h₁₂) refl)))))))
 
@@ -131,9 +133,10 @@ module _ (near far : List ℕ) (i : ℕ) (on : Octets near) (of : Octets far) wh
       (λ h₂. asked (Says6 near far i) (ltb i (entries near)) 3 _ (λ h. noRecord6 refl h₁ h₂ (ltb-false _ _ h))
       (λ h₃. asked (Says6 near far i) (eqb (Entry.behaviour e) endMGtp6DDi) 4 _ (λ h. notDi6 refl h₁ h₂ (ltb-true _ _ h₃) (eqb-false _ _ h))
       (λ h₄. let a : Asked6 near far i = record { nearSound = h₁; farSound = h₂; exists = ltb-true _ _ h₃; enters = eqb-true _ _ h₄ } in
-      found (Says6 near far i) (λ j. between6 e y (entryAt far j)) (reach6 far (Entry.direction e) (Policy.lastSid y) (Policy.start y))
+      found (Says6 near far i) (λ j. between6 e policy (entryAt far j))
+      (reach6 far (Entry.direction e) (Policy.lastSid policy) (Policy.start policy))
       (λ n. noEntry6 refl a
-      (reach-none6 far (Entry.direction e) (Policy.lastSid y) (Policy.start y) of h₂ (sid-octets near on i) (sid-size near on i)
+      (reach-none6 far (Entry.direction e) (Policy.lastSid policy) (Policy.start policy) of h₂ (sid-octets near on i) (sid-size near on i)
       (di-policy near i h₁ (a .exists) (a .enters) .start) n))
       (said6 a)))))
 

@@ -24,14 +24,14 @@ unless holds number behind = cond holds behind number
 
 -- NEAR AND FAR
 
--- 6 to 12, of near entry e with policy y and far entry f
-abbrev pub between6 : (e y f : List ℕ) → ℕ
-between6 e y f =
+-- 6 to 12, of near entry e with its policy and far entry f
+abbrev pub between6 : (e policy f : List ℕ) → ℕ
+between6 e policy f =
     unless (eqb (Entry.behaviour f) endMGtp6E) 6
     (unless (eqb (Entry.direction f) (Entry.direction e)) 7
     (unless (eqb (Entry.session f) (Entry.session e)) 8
-    (unless (eqb (Entry.start f) (Policy.start y)) 9
-    (unless (ltb (Policy.sidCount y - 1) (Entry.hopLimit e)) 12 0))))
+    (unless (eqb (Entry.start f) (Policy.start policy)) 9
+    (unless (ltb (Policy.sidCount policy - 1) (Entry.hopLimit e)) 12 0))))
 
 -- the same of near rule r and far entry f
 abbrev pub between4 : (r f : List ℕ) → ℕ
@@ -48,9 +48,9 @@ abbrev pub atReached : (between : ℕ → ℕ) → Found → ℕ
 atReached between Nothing = 5
 atReached between (At j) = told entryRecord j (between j)
 
-abbrev pub atFar6 : (e y far : List ℕ) → ℕ
-atFar6 e y far =
-    atReached (λ j. between6 e y (entryAt far j)) (reach6 far (Entry.direction e) (Policy.lastSid y) (Policy.start y))
+abbrev pub atFar6 : (e policy far : List ℕ) → ℕ
+atFar6 e policy far =
+    atReached (λ j. between6 e policy (entryAt far j)) (reach6 far (Entry.direction e) (Policy.lastSid policy) (Policy.start policy))
 
 abbrev pub atFar4 : (r far : List ℕ) → ℕ
 atFar4 r far = atReached (λ j. between4 r (entryAt far j)) (reach4 far r)

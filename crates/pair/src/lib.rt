@@ -7,8 +7,8 @@ ghost use Rattle.rules.specs.Rule as Rule;
 ghost use Rattle.rules.specs.Policy as Policy;
 ghost use Rattle.pair.specs.Mismatch.{between6, between4, atFar6, atFar4, mismatch6, mismatch4, mismatchWaypoint};
 use rules::Found;
+use rules::assigned;
 use table::entry;
-use table::policy;
 use table::rule;
 
 // Near and far.
@@ -45,21 +45,25 @@ const WAYPOINT_NO_ENTRY: u64 = 15;
 
 const WAYPOINT_KIND: u8 = 16;
 
-// Near entry e with policy y, and far entry f.
-fn between6(e: &[u8], y: &[u8], f: &[u8]) -> u8
-    requires { ⌜ (length (now e) ≡ 64) × (length (now y) ≡ 288) × (length (now f) ≡ 64) ⌝ }
-    ensures { λ r. ⌜ r ≡ between6 (now (e .entry)) (now (y .entry)) (now (f .entry)) ⌝ }
+// Near entry e with its policy, and far entry f.
+fn between6(e: &[u8], policy: &[u8], f: &[u8]) -> u8
+    requires { ⌜ (length (now e) ≡ 64) × (length (now policy) ≡ 288) × (length (now f) ≡ 64) ⌝ }
+    ensures { λ r. ⌜ r ≡ between6 (now (e .entry)) (now (policy .entry)) (now (f .entry)) ⌝ }
 {
-    let waypoints = octets::less(octets::wide(y[policy::SID_COUNT]), 1);
+    let waypoints = octets::saturating_sub(octets::wide(policy[table::policy::SID_COUNT]), 1);
     let from_12 = table::unless(waypoints < octets::wide(e[entry::HOP_LIMIT]), HOP_LIMIT, 0);
-    let from_9 = table::unless(f[entry::START] == y[policy::START], START, from_12);
+    let from_9 = table::unless(
+        f[entry::START] == policy[table::policy::START],
+        START,
+        from_12,
+    );
     let from_8 = table::unless(f[entry::SESSION] == e[entry::SESSION], SESSION, from_9);
     let from_7 = table::unless(
         f[entry::DIRECTION] == e[entry::DIRECTION],
         DIRECTION,
         from_8,
     );
-    table::unless(f[entry::BEHAVIOUR] == entry::END_M_GTP6_E, KIND, from_7)
+    table::unless(f[entry::BEHAVIOUR] == assigned::END_M_GTP6_E, KIND, from_7)
 }
 
 // Near rule r, and far entry f.
@@ -72,21 +76,25 @@ fn between4(r: &[u8], f: &[u8]) -> u8
     let from_10 = table::unless(f[entry::P] == r[rule::P], P, from_11);
     let from_8 = table::unless(f[entry::SESSION] == r[rule::SESSION], SESSION, from_10);
     let from_7 = table::unless(f[entry::DIRECTION] == r[rule::DIRECTION], DIRECTION, from_8);
-    table::unless(f[entry::BEHAVIOUR] == entry::END_M_GTP4_E, KIND, from_7)
+    table::unless(f[entry::BEHAVIOUR] == assigned::END_M_GTP4_E, KIND, from_7)
 }
 
 // The entry of a far table that is reached, and its conditions.
-fn at_far6(e: &[u8], y: &[u8], far: &[u8]) -> u64
-    requires { ⌜ (length (now e) ≡ 64) × (length (now y) ≡ 288) × (Policy.start (now y) ≤ 88)
+fn at_far6(e: &[u8], policy: &[u8], far: &[u8]) -> u64
+    requires { ⌜ (length (now e) ≡ 64) × (length (now policy) ≡ 288) × (Policy.start (now policy) ≤ 88)
         × (rulesAt (now far) ≤ length (now far)) × (entries (now far) ≤ 64) ⌝ }
-    ensures { λ r. ⌜ r ≡ atFar6 (now (e .entry)) (now (y .entry)) (now (far .entry)) ⌝ }
+    ensures { λ r. ⌜ r ≡ atFar6 (now (e .entry)) (now (policy .entry)) (now (far .entry)) ⌝ }
 {
-    let before = octets::less(octets::wide(y[policy::SID_COUNT]), 1);
-    let last = octets::window16(y, policy::SIDS + 16 * before);
-    let found = reach::reach6(far, e[entry::DIRECTION], last, y[policy::START]);
+    let before = octets::saturating_sub(octets::wide(policy[table::policy::SID_COUNT]), 1);
+    let last = octets::window16(policy, table::policy::SIDS + 16 * before);
+    let found = reach::reach6(far, e[entry::DIRECTION], last, policy[table::policy::START]);
     match found {
         Found::Nothing => NO_ENTRY,
-        Found::At(j) => table::told(table::ENTRY, j, between6(e, y, table::entry_at(far, j))),
+        Found::At(j) => table::told(
+            table::ENTRY,
+            j,
+            between6(e, policy, table::entry_at(far, j)),
+        ),
     }
 }
 
@@ -116,11 +124,11 @@ pub fn mismatch6(near: &[u8], far: &[u8], i: usize) -> u64
         return NO_RECORD;
     }
     let e = table::entry_at(near, i);
-    if e[entry::BEHAVIOUR] != entry::END_M_GTP6_D_DI {
+    if e[entry::BEHAVIOUR] != assigned::END_M_GTP6_D_DI {
         return NOT_DI;
     }
-    let y = table::policy_at(near, octets::wide(e[entry::POLICY]));
-    at_far6(e, y, far)
+    let policy = table::policy_at(near, octets::wide(e[entry::POLICY]));
+    at_far6(e, policy, far)
 }
 
 // Rule k of a near table, and a far table.
@@ -153,7 +161,7 @@ pub fn mismatch_waypoint(table: &[u8], sid: &[u8]) -> u64
     match found {
         Found::Nothing => WAYPOINT_NO_ENTRY,
         Found::At(i) => {
-            let waypoint = table::entry_at(table, i)[entry::BEHAVIOUR] == entry::END;
+            let waypoint = table::entry_at(table, i)[entry::BEHAVIOUR] == assigned::END;
             table::told(table::ENTRY, i, table::unless(waypoint, WAYPOINT_KIND, 0))
         }
     }

@@ -5,8 +5,7 @@ ghost use Prim.Native.Nat.{_+_, _-_, _*_, _^_, _%_, _≤_, _<_};
 ghost use lib.Dec.{eqb};
 ghost use lib.ListN.{length};
 ghost use Rattle.rules.specs.Prefix.{under, clear};
-
-pub mod numbers; // numbers.rt: numbers that stand in octets
+use octets::numbers;
 
 const IPV4_BITS: usize = 32;
 
@@ -31,7 +30,7 @@ pub fn under16(address: &[u8], prefix: &[u8], bits: usize) -> bool
     if a != p {
         return false;
     }
-    let rest = octets::less(IPV6_BITS, bits);
+    let rest = octets::saturating_sub(IPV6_BITS, bits);
     numbers::eight(address, 8) >> rest == numbers::eight(prefix, 8) >> rest
 }
 
@@ -40,7 +39,7 @@ pub fn under4(address: &[u8], prefix: &[u8], bits: usize) -> bool
     requires { ⌜ (4 ≤ length (now address)) × (4 ≤ length (now prefix)) ⌝ }
     ensures { λ r. ⌜ r ≡ under 4 (now (address .entry)) (now (prefix .entry)) bits ⌝ }
 {
-    let rest = octets::less(IPV4_BITS, bits);
+    let rest = octets::saturating_sub(IPV4_BITS, bits);
     numbers::four(address, 0) >> rest == numbers::four(prefix, 0) >> rest
 }
 
@@ -59,7 +58,7 @@ pub fn clear16(prefix: &[u8], bits: usize) -> bool
 {
     let low = numbers::eight(prefix, 8);
     if WORD_BITS < bits {
-        return ends_clear(low, octets::less(IPV6_BITS, bits));
+        return ends_clear(low, octets::saturating_sub(IPV6_BITS, bits));
     }
     if low != 0 {
         return false;
@@ -95,5 +94,8 @@ pub fn clear4(prefix: &[u8], bits: usize) -> bool
     requires { ⌜ 4 ≤ length (now prefix) ⌝ }
     ensures { λ r. ⌜ r ≡ clear 4 (now (prefix .entry)) bits ⌝ }
 {
-    ends_clear(numbers::four(prefix, 0), octets::less(IPV4_BITS, bits))
+    ends_clear(
+        numbers::four(prefix, 0),
+        octets::saturating_sub(IPV4_BITS, bits),
+    )
 }

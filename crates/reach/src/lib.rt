@@ -42,7 +42,7 @@ fn lies_under(address: [u8; 16], prefix: [u8; 16], bits: usize) -> bool
     while i < 16 {
         let a = octets::wide(address[i]);
         let b = octets::wide(prefix[i]);
-        same = same & same_first_bits(a, b, octets::less(8 * (i + 1), bits));
+        same = same & same_first_bits(a, b, octets::saturating_sub(8 * (i + 1), bits));
         i += 1;
     }
     same
@@ -63,7 +63,7 @@ fn reaches6(direction: u8, sid: [u8; 16], start: u8, prefix: [u8; 16], bits: usi
 fn smaller(x: usize, y: usize) -> usize
     ensures { λ r. ⌜ r ≡ smaller x y ⌝ }
 {
-    octets::less(x, octets::less(x, y))
+    octets::saturating_sub(x, octets::saturating_sub(x, y))
 }
 
 // The rule's SID comes under the prefix with some destination and some Args.
@@ -74,11 +74,11 @@ fn reaches4(r: &[u8], prefix: [u8; 16], bits: usize) -> bool
     let p = r[rule::P];
     let at = octets::wide(p);
     let to = octets::window4(&prefix, at);
-    let own = gateway::sid_of(r, to, own_args(r[rule::DIRECTION], prefix, 8 * (p + 4)));
+    let own = near::d4::sid_of(r, to, own_args(r[rule::DIRECTION], prefix, 8 * (p + 4)));
     let ours = octets::window4(r, rule::PREFIX);
     let both = smaller(
         octets::wide(r[rule::PREFIX_LENGTH]),
-        octets::less(bits, 8 * at),
+        octets::saturating_sub(bits, 8 * at),
     );
     lies_under(own, prefix, bits) & prefix::under4(&to, &ours, both)
 }

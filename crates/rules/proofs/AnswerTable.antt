@@ -23,7 +23,8 @@ use Rattle.rules.specs.D.{dPath, dPacket, decideD}
 use Rattle.rules.specs.Di.{diPath, diPacket, decideDi}
 use Rattle.rules.specs.E6.{e6Rows, rowsE6, decideE6}
 use Rattle.rules.specs.E4.{e4Rows, rowsE4, decideE4}
-use Rattle.rules.specs.D4.{header4, gtp4Rows, rowsD4, decideD4}
+use Rattle.rules.specs.D4.{gtp4Rows, rowsD4, decideD4}
+use Rattle.rules.specs.Header4.{header4}
 use Rattle.rules.specs.Calls.{decideEntry, decideFoundEntry, decideFoundRule, frontRows6, frontRows4, rows6, rows4}
 use Rattle.rules.specs.Refused.{upperAt}
 use Rattle.rules.specs.Given.{icmp, withoutIcmp, withIcmp}

@@ -19,7 +19,8 @@ use Rattle.rules.specs.D.{dPath, dPacket}
 use Rattle.rules.specs.Di.{diPath, diPacket}
 use Rattle.rules.specs.E6.{e6Carried, e6Packet, e6Rows, rowsE6}
 use Rattle.rules.specs.E4.{e4Carried, e4Packet, e4Rows, rowsE4}
-use Rattle.rules.specs.D4.{header4, d4Sid, d4Source, d4Packet, gtp4Rows, rowsD4}
+use Rattle.rules.specs.D4.{d4Sid, d4Source, d4Packet, gtp4Rows, rowsD4}
+use Rattle.rules.specs.Header4.{header4}
 use Rattle.rules.specs.Calls.{decideEntry, decideFoundEntry, decideFoundRule, frontRows6, frontRows4}
 use Rattle.rules.specs.Calls.{rows6, rows4, translate6, translate4}
 use Rattle.rules.specs.Trip.{trip}

@@ -8,7 +8,8 @@ use Rattle.rules.specs.Ipv4 as Ipv4
 use Rattle.rules.specs.Match.{matchEntry, matchRule}
 use Rattle.rules.specs.Answer.{plain, roomRow, verdict, Decision, Sent, Refused, after, unless, outcome, inRoom, settle}
 use Rattle.rules.specs.Header.{header}
-use Rattle.rules.specs.D4.{header4, atD4}
+use Rattle.rules.specs.D4.{atD4}
+use Rattle.rules.specs.Header4.{header4}
 use Rattle.rules.specs.Calls.{atEntry, decideFoundEntry, decideFoundRule, atFoundEntry, atFoundRule, frontRows6}
 use Rattle.rules.specs.Calls.{frontRows4, decide6, decide4, rows6, rows4, translate6, translate4}
 use Rattle.rules.specs.declared.Verdict.{Verdict}

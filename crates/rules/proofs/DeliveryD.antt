@@ -27,7 +27,7 @@ use Rattle.rules.proofs.Reading.{Addresses, ipv6-octet, ipv6-trafficCla
 use Rattle.rules.proofs.Waypoints.{onTheWay, way-destination, way-inner}
 use Rattle.rules.proofs.Entries.{at-d, sent-entry}
 use Rattle.rules.proofs.Sids.{withArgs-length, withArgs-back}
-use Rattle.rules.proofs.NearGtp6.{sent-passed, carried6-valid}
+use Rattle.rules.proofs.NearGtp6D.{sent-passed, carried6-valid}
 use Rattle.rules.proofs.Sessions.{carries}
 use Rattle.rules.proofs.Paths.{addressesAt-addresses, way-end, arrives}
 use Rattle.rules.proofs.Tables.{found-d}

@@ -32,7 +32,8 @@ use Rattle.rules.proofs.FarE4.{Arrived, plain-arrived, way-arrived, sid
 use Rattle.rules.proofs.NearD4.{Passed, passed-quiet, passed-fits, carried4-valid, carried4-source, carried4-destination, call-passed, passed-call, back-destination, back-values, back-passed}
 use Rattle.rules.proofs.Sessions.{Carries, carries}
 use Rattle.rules.proofs.Paths.{addressesAt-addresses, way-end, arrives}
-use Rattle.rules.proofs.Tables.{SoundRule, found-rule}
+use Rattle.rules.proofs.Tables.{found-rule}
+use Rattle.rules.specs.SoundRecord.{SoundRule}
 use Rattle.rules.proofs.Trips.{forwards, trip-whole, trip-none}
 use Rattle.rules.proofs.Fields.{e4-written}
 use Rattle.rules.proofs.Again.{same-entry, same-rule, same-waypoints, same-length}

@@ -30,10 +30,12 @@ use Rattle.rules.proofs.Waypoints.{onTheWay}
 use Rattle.rules.proofs.Entries.{at-di, entry-sends, sent-entry}
 use Rattle.rules.proofs.Sids.{withArgs-length}
 use Rattle.rules.proofs.FarE6.{Valid, e6-length, e6-sends}
-use Rattle.rules.proofs.NearGtp6.{Passed, sent-passed, passed-sent, passed-quiet, carried6-valid, carried6-source, carried6-destination, back-destination, back-values, back-passed}
+use Rattle.rules.proofs.NearGtp6D.{Passed, sent-passed, passed-sent, passed-quiet, carried6-valid, carried6-source}
+use Rattle.rules.proofs.NearGtp6D.{carried6-destination, back-destination, back-values, back-passed}
 use Rattle.rules.proofs.Sessions.{Carries, carries}
 use Rattle.rules.proofs.Paths.{addressesAt-addresses, way-end, arrives}
-use Rattle.rules.proofs.Tables.{SoundGtp6D, found-di}
+use Rattle.rules.proofs.Tables.{found-di}
+use Rattle.rules.specs.SoundRecord.{SoundGtp6D}
 use Rattle.rules.proofs.Trips.{forwards, trip-whole}
 use Rattle.rules.proofs.Fields.{e6-written}
 use Rattle.rules.proofs.Again.{same-entry, same-waypoints, same-length}

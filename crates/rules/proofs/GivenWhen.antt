@@ -31,7 +31,8 @@ use Rattle.rules.specs.D.{lastWithArgs, dPath, dPacket, decideD}
 use Rattle.rules.specs.Di.{diPath, diPacket, decideDi}
 use Rattle.rules.specs.E6.{e6Carried, e6Packet, e6Rows, rowsE6, decideE6}
 use Rattle.rules.specs.E4.{e4Carried, e4Packet, e4Rows, rowsE4, decideE4}
-use Rattle.rules.specs.D4.{header4, malformed4, badHeader4, d4Packet, gtp4Rows, rowsD4, decideD4}
+use Rattle.rules.specs.D4.{d4Packet, gtp4Rows, rowsD4, decideD4}
+use Rattle.rules.specs.Header4.{header4, malformed4, badHeader4}
 use Rattle.rules.specs.Calls.{unsoundRow, nothing, decideEntry, decideFoundEntry, decideFoundRule}
 use Rattle.rules.specs.Calls.{frontRows6, frontRows4, rows6, rows4}
 use Rattle.rules.specs.Refused.{upper, behind, NoEntry, NoRule, GivenWaypoint, GivenGtp6D}
@@ -42,7 +43,7 @@ use Rattle.rules.proofs.SoundTables.{sound-table}
 use Rattle.rules.proofs.Windows.{window-length}
 use Rattle.rules.proofs.Longest.{Best, longest-best}
 use Rattle.rules.proofs.Tables.{found-d, found-di, found-rule}
-use Rattle.rules.proofs.NearGtp6.{carried6-valid}
+use Rattle.rules.proofs.NearGtp6D.{carried6-valid}
 use Rattle.rules.proofs.NearD4.{carried4-valid}
 use Rattle.rules.proofs.Paths.{addressesAt-length}
 use Rattle.rules.proofs.PathFields.{path-length, d-written, di-written}

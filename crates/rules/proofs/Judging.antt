@@ -12,7 +12,16 @@ pub row-yes : (bs : List Bool) (ρ : Refusal) (rs : List Row) → any bs ≡ tru
 unfolding verdict
 row-yes bs ρ rs e = rw e
 
-pub row-no : (bs : List Bool) (ρ : Refusal) (rs : List Row) (z : Verdict) → any bs ≡ false → z ≡ verdict rs → z ≡ verdict (record { tests = bs; refusal = ρ } ∷ rs)
+-- the same where the refusal was made under its name
+pub row-named : (bs : List Bool) (ρ r : Refusal) (rs : List Row) → r ≡ ρ → any bs ≡ true → Refuse r ≡ verdict (record {
+  tests = bs;
+  refusal
+      = ρ;
+} ∷ rs)
+row-named bs ρ r rs p e = ap Refuse p ∙ row-yes bs ρ rs e
+
+pub row-no : (bs : List Bool) (ρ : Refusal) (rs : List Row) (z : Verdict) → any bs ≡ false → z ≡ verdict rs → z ≡ verdict
+    (record { tests = bs; refusal = ρ } ∷ rs)
 unfolding verdict
 row-no bs ρ rs z e p = rw e p
 
@@ -34,7 +43,7 @@ pub only-false : (r b : Bool) → r ≡ b → r ≡ false → any (b ∷ []) ≡
 only-false r b p q = ap (λ (x : Bool). x || false) (sym p ∙ q)
 
 -- for `search judged depth 20`, where each row is a callee's bool
-pub ruleset judged = (row-yes, row-no, row-none, is-true, is-false, only-true, only-false)
+pub ruleset judged = (row-yes, row-named, row-no, row-none, is-true, is-false, only-true, only-false)
 
 -- tests made under a condition
 pub any-given : (c : Bool) (bs : List Bool) → (c && any bs) ≡ any (given c bs)
@@ -56,6 +65,13 @@ verdict-append (x ∷ xs) ys = go (any (x .tests)) (verdict-append xs ys)
 pub both : (xs ys : List Row) (a b z : Verdict) → z ≡ first a b → a ≡ verdict xs → b ≡ verdict ys → z ≡ verdict (xs ++ ys)
 both xs ys a b z e p q = e ∙ ap (λ (v : Verdict). first v b) p ∙ ap (λ (v : Verdict). first (verdict xs) v) q ∙ sym (verdict-append xs ys)
 
+-- rows and then more: a function that looks at the later ones only where the earlier pass
+pub refused-first : (xs ys : List Row) (v : Verdict) (ρ : Refusal) → v ≡ verdict xs → v ≡ Refuse ρ → Refuse ρ ≡ verdict (xs ++ ys)
+refused-first xs ys v ρ p e = both xs ys (Refuse ρ) (verdict ys) (Refuse ρ) refl (sym e ∙ p) refl
+
+pub passed-first : (xs ys : List Row) (v w : Verdict) → v ≡ verdict xs → v ≡ Pass → w ≡ verdict ys → w ≡ verdict (xs ++ ys)
+passed-first xs ys v w p e q = both xs ys Pass w w refl (sym e ∙ p) q
+
 after-first : (v w : Verdict) (o : Outcome) → after (first v w) o ≡ after v (after w o)
 after-first Pass w o = refl
 after-first (Refuse ρ) w o = refl
@@ -63,3 +79,8 @@ after-first (Refuse ρ) w o = refl
 -- rows joined decide as rows nested do
 pub unless-append : (xs ys : List Row) (o : Outcome) → unless (xs ++ ys) o ≡ unless xs (unless ys o)
 unless-append xs ys o = ap (λ (v : Verdict). after v o) (verdict-append xs ys) ∙ after-first (verdict xs) (verdict ys) o
+
+-- a list of one test
+pub any-last : (b : Bool) → any (b ∷ []) ≡ b
+any-last true = refl
+any-last false = refl

@@ -18,12 +18,13 @@ pub mod Passing
 pub mod Sids
 pub mod FarE6
 pub mod Messages
-pub mod NearGtp6
+pub mod NearGtp6D
 pub mod Sessions
 pub mod Checksums
 pub mod Splices
 pub mod Fields
 pub mod Paths
+pub mod Plans
 pub mod Again
 pub mod Demand3v6
 pub mod DeliveryD

@@ -20,7 +20,8 @@ use Rattle.rules.specs.Match.{matchRule}
 use Rattle.rules.specs.Answer.{Sent, unless}
 use Rattle.rules.specs.Datagram.{datagram, messageRows, gPduRows, extended, badExtensions}
 use Rattle.rules.specs.Carried.{Carried, carriedBy, carried4, datagramIn4}
-use Rattle.rules.specs.D4.{header4, malformed4, badHeader4, d4Packet, gtp4Rows, d4Rows, rowsD4, atD4}
+use Rattle.rules.specs.D4.{d4Packet, gtp4Rows, d4Rows, rowsD4, atD4}
+use Rattle.rules.specs.Header4.{header4, malformed4, badHeader4}
 use Rattle.rules.specs.E4.{e4Packet, e4TotalLength}
 use Rattle.rules.specs.Calls.{frontRows4, atFoundRule}
 use Rattle.rules.specs.Trip.{Stop, call}

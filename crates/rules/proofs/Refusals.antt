@@ -18,7 +18,7 @@ use Rattle.rules.specs.Answer.{differs, given, any}
 use Rattle.rules.specs.Header.{header, malformed, hasSrh, badSrh, badChain, beyondHeld, segmentsRemain}
 use Rattle.rules.specs.Session.{accepts}
 use Rattle.rules.specs.Waypoint.{underway}
-use Rattle.rules.specs.D4.{header4, malformed4, badHeader4}
+use Rattle.rules.specs.Header4.{header4, malformed4, badHeader4}
 use Rattle.rules.specs.Refused.{Malformed6, Malformed4, BadIpv4, BadChain, BadChainE6, HopLimitSpent, SegmentsRemain, BadLeftE6}
 use Rattle.rules.specs.Refused.{BadLeftWaypoint, OfSession, NotUnderway}
 use Rattle.rules.proofs.Conditions.{and-left, and-right, _also_}

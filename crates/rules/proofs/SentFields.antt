@@ -25,7 +25,8 @@ use Rattle.rules.specs.D.{dPath, dPacket, atD}
 use Rattle.rules.specs.Di.{diPath, diPacket, atDi}
 use Rattle.rules.specs.E6.{e6Carried, e6Packet, rowsE6, atE6}
 use Rattle.rules.specs.E4.{startBehind, e4Carried, e4TotalLength, e4Packet, e4Rows, rowsE4, atE4}
-use Rattle.rules.specs.D4.{header4, d4Packet, rowsD4, atD4}
+use Rattle.rules.specs.D4.{d4Packet, rowsD4, atD4}
+use Rattle.rules.specs.Header4.{header4}
 use Rattle.rules.specs.Calls.{frontRows6, frontRows4, atFoundEntry, atFoundRule, decide6}
 use Rattle.rules.specs.Calls.{decide4, rows6, rows4, translate6, translate4}
 use Rattle.rules.specs.Written.{WrittenWaypoint, WrittenD, WrittenDi, WrittenE6, WrittenE4, WrittenD4}
@@ -35,12 +36,13 @@ use Rattle.rules.specs.declared.Found.the-variants.{At, Nothing}
 use Rattle.rules.proofs.Windows.{window-length, octets-window}
 use Rattle.rules.proofs.Conditions.{and-left, conjunct}
 use Rattle.rules.proofs.Rows.{Clear, read, none-back, unless-sent, sent-settle}
-use Rattle.rules.proofs.Tables.{SoundPolicy, found-entry, found-d, found-di, found-rule}
+use Rattle.rules.proofs.Tables.{found-entry, found-d, found-di, found-rule}
+use Rattle.rules.specs.SoundRecord.{SoundPolicy}
 use Rattle.rules.proofs.Deciding.{settled6, settled4, at-found-entry, at-found-rule, at-no-entry, at-no-rule}
 use Rattle.rules.proofs.Entries.{at-waypoint, at-d, at-di, at-e6, at-e4}
 use Rattle.rules.proofs.Sids.{Fits}
 use Rattle.rules.proofs.FarE6.{Valid}
-use Rattle.rules.proofs.NearGtp6.{sent-passed, carried6-valid}
+use Rattle.rules.proofs.NearGtp6D.{sent-passed, carried6-valid}
 use Rattle.rules.proofs.NearD4.{carried4-valid, carried4-source}
 use Rattle.rules.proofs.Fields.{e6-written, e4-written, waypoint-written}
 use Rattle.rules.proofs.PathFields.{d-written, di-written}

@@ -13,49 +13,12 @@ use Rattle.rules.specs.Policy as Policy
 use Rattle.rules.specs.Match.{matchEntry, matchRule}
 use Rattle.rules.specs.Sound.{directionKnown, sessionKnown, usesSession, usesPolicy, usesStart, usesPlaces}
 use Rattle.rules.specs.Sound.{entryConditions, ruleConditions, entrySound, ruleSound, policySound, soundWithin}
+use Rattle.rules.specs.SoundRecord.{SoundPolicy, SoundGtp6D, SoundE6, SoundE4, SoundRule}
 use Rattle.rules.specs.SoundTable.{ArgsStart, RightPolicy}
 use Rattle.rules.specs.declared.Found.the-variants.{At}
 use Rattle.rules.proofs.Conditions.{conjunct, Holds, every-holds, holding, where-used, sound-parts}
 use Rattle.rules.proofs.SoundTables.{start-known, right-policy}
 use Rattle.rules.proofs.Longest.{matched-entry, matched-rule}
-
--- AN ENTRY, A RULE, A POLICY THAT IS SOUND
-
-pub record SoundPolicy (y : List ℕ) : Type 0 where
-  pub least : 1 ≤ Policy.sidCount y
-  pub most : Policy.sidCount y ≤ 8
-  pub start : Policy.start y ≤ 88
-  pub whole : Policy.start y % 8 ≡ 0
-
--- an entry of D or Di, and the policy that it names
-pub record SoundGtp6D (t e : List ℕ) : Type 0 where
-  pub direction : directionKnown (Entry.direction e) ≡ true
-  pub session : sessionKnown (Entry.session e) ≡ true
-  pub named : Entry.policy e < policies t
-  pub policy : SoundPolicy (policyAt t (Entry.policy e))
-
-pub record SoundE6 (e : List ℕ) : Type 0 where
-  pub direction : directionKnown (Entry.direction e) ≡ true
-  pub session : sessionKnown (Entry.session e) ≡ true
-  pub start : Entry.start e ≤ 88
-  pub whole : Entry.start e % 8 ≡ 0
-  pub before : Entry.prefixLength e ≤ Entry.start e
-
-pub record SoundE4 (e : List ℕ) : Type 0 where
-  pub direction : directionKnown (Entry.direction e) ≡ true
-  pub session : sessionKnown (Entry.session e) ≡ true
-  pub p : Entry.p e ≤ 7
-  pub q : Entry.q e ≤ 12
-  pub before : Entry.prefixLength e ≤ 8 * Entry.p e
-
-pub record SoundRule (r : List ℕ) : Type 0 where
-  pub bits : Rule.prefixLength r ≤ 32
-  pub hopLimit : 1 ≤ Rule.hopLimit r
-  pub direction : directionKnown (Rule.direction r) ≡ true
-  pub session : sessionKnown (Rule.session r) ≡ true
-  pub p : Rule.p r ≤ 7
-  pub q : Rule.q r ≤ 12
-  pub waypoints : Rule.waypointCount r ≤ 7
 
 -- FROM THEIR CONDITIONS
 

@@ -17,7 +17,8 @@ use Rattle.rules.specs.D.{decideD}
 use Rattle.rules.specs.Di.{decideDi}
 use Rattle.rules.specs.E6.{decideE6}
 use Rattle.rules.specs.E4.{decideE4}
-use Rattle.rules.specs.D4.{header4, malformed4, badHeader4, decideD4}
+use Rattle.rules.specs.D4.{decideD4}
+use Rattle.rules.specs.Header4.{header4, malformed4, badHeader4}
 use Rattle.rules.specs.declared.Header.{Header}
 use Rattle.rules.specs.declared.Header4.{Header4}
 use Rattle.rules.specs.declared.Found.{Found}

@@ -8,18 +8,18 @@ use Rattle.rules.specs.Carried.{Carried, carried6}
 use Rattle.rules.specs.Gtp6D.{gtp6DPacket, decideGtp6D}
 
 -- a policy's last SID with Args; its other bits stay
-abbrev pub lastWithArgs : (y : List ℕ) → Args → List ℕ
-lastWithArgs y args = withArgs (Policy.lastSid y) (Policy.start y) args
+abbrev pub lastWithArgs : (policy : List ℕ) → Args → List ℕ
+lastWithArgs policy args = withArgs (Policy.lastSid policy) (Policy.start policy) args
 
 -- the policy's SIDs, with Args in the last
-unfoldable pub dPath : (y : List ℕ) → Carried → List (List ℕ)
-dPath y c = Policy.waypoints y ++ lastWithArgs y (c .args) ∷ []
+unfoldable pub dPath : (policy : List ℕ) → Carried → List (List ℕ)
+dPath policy c = Policy.waypoints policy ++ lastWithArgs policy (c .args) ∷ []
 
-unfoldable pub dPacket : (e y : List ℕ) → Carried → List ℕ
-dPacket e y c = gtp6DPacket e (dPath y c) c
+unfoldable pub dPacket : (e policy : List ℕ) → Carried → List ℕ
+dPacket e policy c = gtp6DPacket e (dPath policy c) c
 
-abbrev pub decideD : (e y p : List ℕ) → Decision
-decideD e y p = decideGtp6D e (dPath y (carried6 p)) (dPacket e y (carried6 p)) p
+abbrev pub decideD : (e policy p : List ℕ) → Decision
+decideD e policy p = decideGtp6D e (dPath policy (carried6 p)) (dPacket e policy (carried6 p)) p
 
-unfoldable pub atD : (e y p : List ℕ) → Outcome
-atD e y p = outcome (decideD e y p)
+unfoldable pub atD : (e policy p : List ℕ) → Outcome
+atD e policy p = outcome (decideD e policy p)

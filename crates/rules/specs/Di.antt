@@ -8,14 +8,14 @@ use Rattle.rules.specs.D.{lastWithArgs}
 use Rattle.rules.specs.Gtp6D.{gtp6DPacket, decideGtp6D}
 
 -- as D, but the arriving destination is placed after the last SID, as SRH[0]
-unfoldable pub diPath : (y : List ℕ) → Carried → List (List ℕ)
-diPath y c = Policy.waypoints y ++ (lastWithArgs y (c .args) ∷ c .destination ∷ [])
+unfoldable pub diPath : (policy : List ℕ) → Carried → List (List ℕ)
+diPath policy c = Policy.waypoints policy ++ (lastWithArgs policy (c .args) ∷ c .destination ∷ [])
 
-unfoldable pub diPacket : (e y : List ℕ) → Carried → List ℕ
-diPacket e y c = gtp6DPacket e (diPath y c) c
+unfoldable pub diPacket : (e policy : List ℕ) → Carried → List ℕ
+diPacket e policy c = gtp6DPacket e (diPath policy c) c
 
-abbrev pub decideDi : (e y p : List ℕ) → Decision
-decideDi e y p = decideGtp6D e (diPath y (carried6 p)) (diPacket e y (carried6 p)) p
+abbrev pub decideDi : (e policy p : List ℕ) → Decision
+decideDi e policy p = decideGtp6D e (diPath policy (carried6 p)) (diPacket e policy (carried6 p)) p
 
-unfoldable pub atDi : (e y p : List ℕ) → Outcome
-atDi e y p = outcome (decideDi e y p)
+unfoldable pub atDi : (e policy p : List ℕ) → Outcome
+atDi e policy p = outcome (decideDi e policy p)

@@ -20,13 +20,13 @@ abbrev pub startBehind : (p : ℕ) → ℕ
 startBehind p = 8 * (p + 4)
 
 -- E4 SID: prefix of p octets, IPv4 destination, Args, padding; IPv6 source: prefix of q octets, IPv4 source, ignored rest
-unfoldable pub e4Carried : (e p : List ℕ) → Carried
-e4Carried e p = record {
-  trafficClass = Ipv6.trafficClass p;
-  source = window (Ipv6.source p) (Entry.q e) 4;
-  destination = window (Ipv6.destination p) (Entry.p e) 4;
-  args = argsAt (Ipv6.destination p) (startBehind (Entry.p e));
-  inner = drop (header p .upperAt) p;
+unfoldable pub e4Carried : (e packet : List ℕ) → Carried
+e4Carried e packet = record {
+  trafficClass = Ipv6.trafficClass packet;
+  source = window (Ipv6.source packet) (Entry.q e) 4;
+  destination = window (Ipv6.destination packet) (Entry.p e) 4;
+  args = argsAt (Ipv6.destination packet) (startBehind (Entry.p e));
+  inner = drop (header packet .upperAt) packet;
 }
 
 abbrev pub e4TotalLength : (inner : List ℕ) → ℕ
@@ -46,11 +46,11 @@ e4Rows e h =
     ∷ []
 
 -- all rows of E4
-unfoldable pub rowsE4 : (e p : List ℕ) → List Row
-rowsE4 e p = e4Rows e (header p) ++ lengthRow (e4TotalLength (e4Carried e p .inner)) ∷ []
+unfoldable pub rowsE4 : (e packet : List ℕ) → List Row
+rowsE4 e packet = e4Rows e (header packet) ++ lengthRow (e4TotalLength (e4Carried e packet .inner)) ∷ []
 
-abbrev pub decideE4 : (e p : List ℕ) → Decision
-decideE4 e p = record { rows = rowsE4 e p; packet = e4Packet e (e4Carried e p) }
+abbrev pub decideE4 : (e packet : List ℕ) → Decision
+decideE4 e packet = record { rows = rowsE4 e packet; packet = e4Packet e (e4Carried e packet) }
 
-unfoldable pub atE4 : (e p : List ℕ) → Outcome
-atE4 e p = outcome (decideE4 e p)
+unfoldable pub atE4 : (e packet : List ℕ) → Outcome
+atE4 e packet = outcome (decideE4 e packet)

@@ -24,7 +24,7 @@ unfoldable pub ruleBroken : List ℕ → ℕ
 ruleBroken r = firstBroken 1 (ruleConditions r)
 
 unfoldable pub policyBroken : List ℕ → ℕ
-policyBroken y = firstBroken 1 (policyConditions y)
+policyBroken policy = firstBroken 1 (policyConditions policy)
 
 -- and behind them that no earlier record has this prefix with its length
 abbrev pub entryRepeated : (t : List ℕ) (j : ℕ) → ℕ

@@ -1,8 +1,9 @@
 -- What is asked of an arriving IPv6 packet: rows 2 and 5, and the parts of row 7. The chain is the IPv6 next header and, where that
 -- is 43, the SRH's; whatever follows is the upper layer.
+use mathlib.Core.Path.{_≡_}
 use mathlib.Core.Bool.{Bool, cond}
 use mathlib.Core.List.{List, [], _∷_}
-use Prim.Native.Nat.{ℕ, _+_, _*_, _/_}
+use Prim.Native.Nat.{ℕ, _+_, _*_, _/_, _≤_, _<_}
 use lib.Dec.{leb, ltb, eqb}
 use lib.ListN.{length}
 use Rattle.rules.specs.Assigned.{hopByHop, routingHeader, fragmentHeader, destinationOptions, segmentRouting}
@@ -66,3 +67,9 @@ beyondHeld h = leb (h .units / 2) (h .lastEntry)
 -- row 7 at D, Di and E4: SL not 0
 abbrev pub segmentsRemain : Header → List Bool
 segmentsRemain h = given (hasSrh h) (differs (h .segmentsLeft) 0 ∷ [])
+
+-- a packet that passed row 2, and its view: no packet is longer than its length field allows
+pub record WellFormed (p : List ℕ) (h : Header) : Type 0 where
+  pub view : h ≡ header p
+  pub long : 40 ≤ length p
+  pub short : length p < 65576

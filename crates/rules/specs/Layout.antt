@@ -164,10 +164,10 @@ pub record RuleOctets (r : List ℕ) : Type 0 where
   pub waypoints : length (Rule.waypoints r) ≡ Rule.waypointCount r
   pub waypoint : (k : ℕ) → k < Rule.waypointCount r → Part r (48 + 16 * k) 16 (getD (Rule.waypoints r) k [])
 
-pub record PolicyOctets (y : List ℕ) : Type 0 where
-  pub sidCount : octet y 0 ≡ Policy.sidCount y
-  pub start : octet y 1 ≡ Policy.start y
-  pub reserved : octet y 2 ≡ Policy.reserved y
-  pub waypoints : length (Policy.waypoints y) ≡ Policy.sidCount y - 1
-  pub waypoint : (k : ℕ) → k < Policy.sidCount y - 1 → Part y (16 + 16 * k) 16 (getD (Policy.waypoints y) k [])
-  pub lastSid : Part y (16 + 16 * (Policy.sidCount y - 1)) 16 (Policy.lastSid y)
+pub record PolicyOctets (policy : List ℕ) : Type 0 where
+  pub sidCount : octet policy 0 ≡ Policy.sidCount policy
+  pub start : octet policy 1 ≡ Policy.start policy
+  pub reserved : octet policy 2 ≡ Policy.reserved policy
+  pub waypoints : length (Policy.waypoints policy) ≡ Policy.sidCount policy - 1
+  pub waypoint : (k : ℕ) → k < Policy.sidCount policy - 1 → Part policy (16 + 16 * k) 16 (getD (Policy.waypoints policy) k [])
+  pub lastSid : Part policy (16 + 16 * (Policy.sidCount policy - 1)) 16 (Policy.lastSid policy)

@@ -11,6 +11,7 @@ pub mod Match
 pub mod Sound
 pub mod Fault
 pub mod SoundTable
+pub mod SoundRecord
 pub mod Ipv6
 pub mod Srh
 pub mod Checksum
@@ -19,6 +20,7 @@ pub mod Gtpu
 pub mod Layout
 pub mod Answer
 pub mod Header
+pub mod Header4
 pub mod Datagram
 pub mod Session
 pub mod Carried
@@ -30,6 +32,7 @@ pub mod Di
 pub mod E6
 pub mod E4
 pub mod D4
+pub mod Plan
 pub mod Calls
 pub mod Trip
 pub mod Written

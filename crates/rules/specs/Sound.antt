@@ -183,13 +183,13 @@ ruleSound r = every (ruleConditions r)
 
 -- a policy has 1 to 8 SIDs
 abbrev pub sidsWithin : List ℕ → Bool
-sidsWithin y = leb 1 (Policy.sidCount y) && leb (Policy.sidCount y) 8
+sidsWithin policy = leb 1 (Policy.sidCount policy) && leb (Policy.sidCount policy) 8
 
 abbrev pub policyConditions : List ℕ → List Bool
-policyConditions y = sidsWithin y ∷ startWithin (Policy.start y) ∷ reservedClear (Policy.reserved y) ∷ []
+policyConditions policy = sidsWithin policy ∷ startWithin (Policy.start policy) ∷ reservedClear (Policy.reserved policy) ∷ []
 
 unfoldable pub policySound : List ℕ → Bool
-policySound y = every (policyConditions y)
+policySound policy = every (policyConditions policy)
 
 -- NO PREFIX WITH ITS LENGTH OCCURS TWICE
 

@@ -86,11 +86,11 @@ pub record RightRule (r : List ℕ) : Type 0 where
   pub waypoints : Rule.waypointCount r ≤ 7
   pub reserved : Rule.reserved r ≡ 0
 
-pub record RightPolicy (y : List ℕ) : Type 0 where
-  pub leastSids : 1 ≤ Policy.sidCount y
-  pub mostSids : Policy.sidCount y ≤ 8
-  pub start : ArgsStart (Policy.start y)
-  pub reserved : Policy.reserved y ≡ 0
+pub record RightPolicy (policy : List ℕ) : Type 0 where
+  pub leastSids : 1 ≤ Policy.sidCount policy
+  pub mostSids : Policy.sidCount policy ≤ 8
+  pub start : ArgsStart (Policy.start policy)
+  pub reserved : Policy.reserved policy ≡ 0
 
 -- THE TABLE
 

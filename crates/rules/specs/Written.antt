@@ -100,8 +100,8 @@ pub record SessionHeader (session next : ℕ) (inner : List ℕ) : Type 0 where
 -- ADDRESSES
 
 -- SID k of a policy and waypoint k of a rule, from 0, in order of travel
-abbrev pub sidOf : (y : List ℕ) (k : ℕ) → List ℕ
-sidOf y k = window y (16 + 16 * k) 16
+abbrev pub sidOf : (policy : List ℕ) (k : ℕ) → List ℕ
+sidOf policy k = window policy (16 + 16 * k) 16
 
 abbrev pub waypointOf : (r : List ℕ) (k : ℕ) → List ℕ
 waypointOf r k = window r (48 + 16 * k) 16
@@ -131,28 +131,28 @@ pub record SourceBuilt (address : List ℕ) (r : List ℕ) (c : Carried) : Type 
 
 -- D: SRH with the policy's n SIDs, SL = LE = n - 1. Args go into the last SID, which is SRH[0]; SID k is SRH[n - 1 - k]. Destination is
 -- the first SID, with Args if n is 1.
-pub record WrittenD (e y : List ℕ) (c : Carried) (p : List ℕ) : Type 0 where
-  pub ipv6 : Ipv6Fields p (c .trafficClass) (8 + 16 * Policy.sidCount y + length (c .inner)) (Entry.hopLimit e)
+pub record WrittenD (e policy : List ℕ) (c : Carried) (p : List ℕ) : Type 0 where
+  pub ipv6 : Ipv6Fields p (c .trafficClass) (8 + 16 * Policy.sidCount policy + length (c .inner)) (Entry.hopLimit e)
   pub nextHeader : Ipv6.nextHeader p ≡ 43
   pub source : Ipv6.source p ≡ Entry.source e
-  pub first : 1 < Policy.sidCount y → Ipv6.destination p ≡ sidOf y 0
-  pub only : Policy.sidCount y ≡ 1 → WithArgs (Ipv6.destination p) (Policy.start y) (c .args) (Policy.lastSid y)
-  pub srh : SrhFields p (Policy.sidCount y - 1) (c .inner)
+  pub first : 1 < Policy.sidCount policy → Ipv6.destination p ≡ sidOf policy 0
+  pub only : Policy.sidCount policy ≡ 1 → WithArgs (Ipv6.destination p) (Policy.start policy) (c .args) (Policy.lastSid policy)
+  pub srh : SrhFields p (Policy.sidCount policy - 1) (c .inner)
   pub session : SessionHeader (Entry.session e) (Srh.nextHeader p) (c .inner)
-  pub sids : (k : ℕ) → k < Policy.sidCount y - 1 → Srh.segment p (Policy.sidCount y - 1 - k) ≡ sidOf y k
-  pub lastSid : WithArgs (Srh.segment p 0) (Policy.start y) (c .args) (Policy.lastSid y)
+  pub sids : (k : ℕ) → k < Policy.sidCount policy - 1 → Srh.segment p (Policy.sidCount policy - 1 - k) ≡ sidOf policy k
+  pub lastSid : WithArgs (Srh.segment p 0) (Policy.start policy) (c .args) (Policy.lastSid policy)
 
 -- Di: as D, but the arriving destination is placed after the last SID as SRH[0]; SL = LE = n. Args are in SRH[1].
-pub record WrittenDi (e y : List ℕ) (c : Carried) (p : List ℕ) : Type 0 where
-  pub ipv6 : Ipv6Fields p (c .trafficClass) (8 + 16 * (Policy.sidCount y + 1) + length (c .inner)) (Entry.hopLimit e)
+pub record WrittenDi (e policy : List ℕ) (c : Carried) (p : List ℕ) : Type 0 where
+  pub ipv6 : Ipv6Fields p (c .trafficClass) (8 + 16 * (Policy.sidCount policy + 1) + length (c .inner)) (Entry.hopLimit e)
   pub nextHeader : Ipv6.nextHeader p ≡ 43
   pub source : Ipv6.source p ≡ Entry.source e
-  pub first : 1 < Policy.sidCount y → Ipv6.destination p ≡ sidOf y 0
-  pub only : Policy.sidCount y ≡ 1 → WithArgs (Ipv6.destination p) (Policy.start y) (c .args) (Policy.lastSid y)
-  pub srh : SrhFields p (Policy.sidCount y) (c .inner)
+  pub first : 1 < Policy.sidCount policy → Ipv6.destination p ≡ sidOf policy 0
+  pub only : Policy.sidCount policy ≡ 1 → WithArgs (Ipv6.destination p) (Policy.start policy) (c .args) (Policy.lastSid policy)
+  pub srh : SrhFields p (Policy.sidCount policy) (c .inner)
   pub session : SessionHeader (Entry.session e) (Srh.nextHeader p) (c .inner)
-  pub sids : (k : ℕ) → k < Policy.sidCount y - 1 → Srh.segment p (Policy.sidCount y - k) ≡ sidOf y k
-  pub lastSid : WithArgs (Srh.segment p 1) (Policy.start y) (c .args) (Policy.lastSid y)
+  pub sids : (k : ℕ) → k < Policy.sidCount policy - 1 → Srh.segment p (Policy.sidCount policy - k) ≡ sidOf policy k
+  pub lastSid : WithArgs (Srh.segment p 1) (Policy.start policy) (c .args) (Policy.lastSid policy)
   pub arriving : Srh.segment p 0 ≡ c .destination
 
 -- D4 with waypoints: SRH of the n waypoints, then the SID that the rule builds, which is SRH[0]; SL = LE = n. Destination is the first

@@ -15,7 +15,8 @@ use Rattle.rules.specs.Header.{header, malformed, badChain, segmentsRemain}
 use Rattle.rules.specs.Datagram.{datagram, notGtpu, messageRows}
 use Rattle.rules.specs.Carried.{datagramIn6, datagramIn4}
 use Rattle.rules.specs.Gtp6D.{gtp6Rows}
-use Rattle.rules.specs.D4.{header4, gtp4Rows}
+use Rattle.rules.specs.D4.{gtp4Rows}
+use Rattle.rules.specs.Header4.{header4}
 use Rattle.rules.proofs.Windows.{octets-window}
 use Rattle.rules.proofs.Rows.{Clear, None, clear, read}
 use Rattle.rules.proofs.Checksums.{wordSum, fold, onesSum-fold}

@@ -19,7 +19,8 @@ use Rattle.rules.specs.Carried.{carriedBy, carried6, carried4, datagramIn6, dat
 use Rattle.rules.specs.Gtp6D.{gtp6Rows, gtp6DRows, rowsGtp6D, decideGtp6D}
 use Rattle.rules.specs.D.{dPath, dPacket, atD}
 use Rattle.rules.specs.Di.{diPath, diPacket, atDi}
-use Rattle.rules.specs.D4.{header4, malformed4, badHeader4, gtp4Rows, d4Rows, rowsD4, d4Packet, atD4}
+use Rattle.rules.specs.D4.{gtp4Rows, d4Rows, rowsD4, d4Packet, atD4}
+use Rattle.rules.specs.Header4.{header4, malformed4, badHeader4}
 use Rattle.rules.specs.Calls.{atEntry, atFoundEntry, atFoundRule, frontRows6, frontRows4, translate6, translate4}
 use Rattle.rules.specs.declared.Verdict.the-variants.{Pass}
 use Rattle.rules.specs.declared.Found.{Found}
@@ -59,12 +60,12 @@ d4-passes r p v =
 -- THE CALLS
 
 -- an entry of D or Di
-abbrev pub NearGtp6 : (e : List ℕ) → Type 0
-NearGtp6 e = (Entry.behaviour e ≡ endMGtp6D) ⊎ (Entry.behaviour e ≡ endMGtp6DDi)
+abbrev pub NearGtp6D : (e : List ℕ) → Type 0
+NearGtp6D e = (Entry.behaviour e ≡ endMGtp6D) ⊎ (Entry.behaviour e ≡ endMGtp6DDi)
 
 module _ (p t : List ℕ) (room : ℕ) (x : List ℕ) where
   -- the IPv6 call, where the entry that matches is one of them
-  pub sent-passes6 : (i : ℕ) → translate6 p t room ≡ Sent x → matchEntry t (Ipv6.destination p) ≡ At i → NearGtp6 (entryAt t i)
+  pub sent-passes6 : (i : ℕ) → translate6 p t room ≡ Sent x → matchEntry t (Ipv6.destination p) ≡ At i → NearGtp6D (entryAt t i)
       → verdict (gPduRows6 p) ≡ Pass
   unfolding frontRows6 atD atDi
   sent-passes6 i h m b =
@@ -84,11 +85,11 @@ module _ (p t : List ℕ) (room : ℕ) (x : List ℕ) where
           let n = unless-sent (rowsGtp6D e path p) (Sent made) x k .0 in
           gtp6D-passes e path p (none-pass (row (malformed (header p)) 2 ∷ rowsGtp6D e path p) (front, n))
 
-      go : NearGtp6 e → Clear (malformed (header p)) → atEntry t e p ≡ Sent x → verdict (gPduRows6 p) ≡ Pass
+      go : NearGtp6D e → Clear (malformed (header p)) → atEntry t e p ≡ Sent x → verdict (gPduRows6 p) ≡ Pass
       go (inl d) front k = along (dPath y (carried6 p)) (dPacket e y (carried6 p)) front (sym (at-d t e p d) ∙ k)
       go (inr d) front k = along (diPath y (carried6 p)) (diPacket e y (carried6 p)) front (sym (at-di t e p d) ∙ k)
 
-  pub sent-flag6 : (i : ℕ) → translate6 p t room ≡ Sent x → matchEntry t (Ipv6.destination p) ≡ At i → NearGtp6 (entryAt t i)
+  pub sent-flag6 : (i : ℕ) → translate6 p t room ≡ Sent x → matchEntry t (Ipv6.destination p) ≡ At i → NearGtp6D (entryAt t i)
       → ByFlag (datagramIn6 p) (sequence6 p)
   unfolding sequence6
   sent-flag6 i h m b = passed-flag (gPduRows6 p) (datagramIn6 p) (sent-passes6 i h m b)

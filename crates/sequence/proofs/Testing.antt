@@ -1,38 +1,30 @@
 -- How code that tests rows one by one is proved: each `return` follows from the tests that led there.
-use mathlib.Core.Path.{_≡_, refl, sym, ap, _∙_}
+use mathlib.Core.Path.{_≡_, refl, ap, _∙_}
 use mathlib.Core.Bool.{Bool, true, false, not, cond, _&&_}
 use mathlib.Core.List.{List, [], _∷_, _++_}
-use Prim.Native.Nat.{ℕ, _-_}
-use native.Mathlib.Nat.{add-zero}
-use lib.ListN.{length, drop, length-drop}
+use Prim.Native.Nat.{ℕ, _/_, _%_}
+use lib.Dec.{eqb}
+use lib.ListN.{length, drop}
 use borrow.Author.Tests.{not-true, not-false}
-use Rattle.rules.specs.Octets.{window}
+use Rattle.rules.specs.Octets.{window, number}
 use Rattle.rules.specs.Gtpu as Gtpu
-use Rattle.rules.specs.Answer.{Row, row, any, upperLayerRow, verdict, first}
+use Rattle.rules.specs.Answer.{Row, row, any, upperLayerRow, verdict}
 use Rattle.rules.specs.Header.{headerOf, header, malformed}
-use Rattle.rules.specs.Datagram.{datagramOf, datagram, notGtpu, messageRows}
+use Rattle.rules.specs.Datagram.{datagram, notGtpu}
 use Rattle.rules.specs.Gtp6D.{gtp6Rows}
-use Rattle.rules.specs.D4.{header4Of, header4, malformed4, badHeader4, gtp4Rows}
+use Rattle.rules.specs.D4.{gtp4Rows}
+use Rattle.rules.specs.Header4.{header4Of, header4, malformed4, badHeader4}
 use Rattle.rules.specs.declared.Header.{Header}
 use Rattle.rules.specs.declared.Header4.{Header4}
 use Rattle.rules.specs.declared.Datagram.{Datagram}
 use Rattle.rules.specs.declared.Refusal.{Refusal}
-use Rattle.rules.specs.declared.Verdict.{Verdict}
-use Rattle.rules.specs.declared.Verdict.the-variants.{Pass, Refuse}
-use Rattle.rules.proofs.Windows.{window-drop}
-use Rattle.rules.proofs.Judging.{verdict-append, is-true, is-false, only-true, only-false}
+use Rattle.rules.specs.declared.Verdict.the-variants.{Refuse}
+use Rattle.rules.proofs.Judging.{is-true, is-false, only-true, only-false}
 use Rattle.sequence.specs.Sequence.{rows9To11, gPduRows6, gPduRows4, passes, numbered, teid, found, foundIn}
 use Rattle.sequence.specs.Sequence.{sequenceUnless, sequence6, sequence4}
 use Rattle.sequence.specs.Parts.{rows8To11, sequenceIn}
 
 -- ROWS
-
-passes-first : (v w : Verdict) → passes (first v w) ≡ (passes v && passes w)
-passes-first Pass w = refl
-passes-first (Refuse ρ) w = refl
-
-passes-append : (xs ys : List Row) → passes (verdict (xs ++ ys)) ≡ (passes (verdict xs) && passes (verdict ys))
-passes-append xs ys = ap passes (verdict-append xs ys) ∙ passes-first (verdict xs) (verdict ys)
 
 module _ (u : List ℕ) where
   -- a row that applies, and one that is passed
@@ -46,61 +38,33 @@ module _ (u : List ℕ) where
   unfolding sequenceUnless verdict
   row-passed bs ρ rs z e p = rw e p
 
-  -- rows of which one applies, and rows that are passed
-  pub rows-apply : (xs ys : List Row) → passes (verdict xs) ≡ false → 0 ≡ sequenceUnless (xs ++ ys) u
-  unfolding sequenceUnless
-  rows-apply xs ys e = rw (passes-append xs ys, e)
-
-  pub rows-passed : (xs ys : List Row) (z : ℕ) → passes (verdict xs) ≡ true → z ≡ sequenceUnless ys u → z ≡ sequenceUnless (xs ++ ys) u
-  unfolding sequenceUnless
-  rows-passed xs ys z e p = rw (passes-append xs ys, e) p
-
-  -- S
-  pub flag-clear : numbered u ≡ false → 0 ≡ sequenceUnless [] u
-  unfolding sequenceUnless verdict
-  flag-clear e = rw e
-
-  pub flag-set : (t n z : ℕ) → numbered u ≡ true → z ≡ found t n → t ≡ teid u → n ≡ Gtpu.sequenceNumber u → z ≡ sequenceUnless [] u
-  unfolding sequenceUnless verdict
-  flag-set t n z e p q r = rw e (p ∙ (λ i. found (q i) (r i)))
-
--- a callee's result, negated
-pub not-taken : (r b : Bool) → r ≡ b → not r ≡ true → b ≡ false
-not-taken r b p q = sym p ∙ not-true r q
-
-pub not-left : (r b : Bool) → r ≡ b → not r ≡ false → b ≡ true
-not-left r b p q = sym p ∙ not-false r q
-
-pub ruleset tested = (
-  row-applies,
-  row-passed,
-  rows-apply,
-  rows-passed,
-  flag-clear,
-  flag-set,
-  is-true,
-  is-false,
-  only-true,
-  only-false,
-  not-taken,
-  not-left,
-)
+pub ruleset tested = (row-applies, row-passed, is-true, is-false, only-true, only-false)
 
 -- WHAT IS READ OF A PACKET
 
-window-at : (p : List ℕ) (at n : ℕ) → window p at n ≡ window (drop at p) 0 n
-window-at p at n = ap (λ (k : ℕ). window p k n) (sym (add-zero at)) ∙ sym (window-drop p at 0 n)
+-- a datagram by its view
+module _ (u : List ℕ) (g : Datagram) (seen : g ≡ datagram u) where
+  pub datagram-seen : (protocol z : ℕ) → z ≡ sequenceUnless (rows8To11 protocol g) u → z ≡ sequenceIn protocol u
+  datagram-seen protocol z e = e ∙ ap (λ (g : Datagram). sequenceUnless (rows8To11 protocol g) u) seen
 
--- a datagram by its first 24 octets, whatever type is said to be behind its extension
-pub datagram-seen : (protocol : ℕ) (p f : List ℕ) (at n z : ℕ) (g : Datagram) → f ≡ window p at 24 → n ≡ length p - at
-    → g ≡ datagramOf f n 0 → z ≡ sequenceUnless (rows8To11 protocol g) f → z ≡ sequenceIn protocol (drop at p)
-unfolding sequenceUnless rows8To11 messageRows datagram window
-datagram-seen protocol p f at n z g hf hn hg hz =
-    let e : f ≡ window (drop at p) 0 24 = hf ∙ window-at p at 24 in
-    let l : n ≡ length (drop at p) = hn ∙ sym (length-drop at p) in
-    hz
-    ∙ ap (λ (g : Datagram). sequenceUnless (rows8To11 protocol g) f) hg
-    ∙ (λ i. sequenceUnless (rows8To11 protocol (datagramOf (e i) (l i) 0)) (e i))
+  -- S, tested in the view by r
+  module _ (r : Bool) (tested : r ≡ eqb (g .flags / 2 % 2) 1) where
+    flag-seen : r ≡ numbered u
+    unfolding datagram
+    flag-seen = tested ∙ ap (λ (g : Datagram). eqb (g .flags / 2 % 2) 1) seen
+
+    pub flag-clear : not r ≡ true → 0 ≡ sequenceUnless [] u
+    unfolding sequenceUnless verdict
+    flag-clear e = rw (← flag-seen, not-true r e)
+
+    pub flag-set : (t n z : ℕ) → not r ≡ false → z ≡ found t n → t ≡ number (g .teid) 0 4 → n ≡ Gtpu.sequenceNumber u
+        → z ≡ sequenceUnless [] u
+    unfolding sequenceUnless verdict datagram
+    flag-set t n z e p q s =
+        let teid-seen : t ≡ teid u = q ∙ ap (λ (g : Datagram). number (g .teid) 0 4) seen in
+        rw (← flag-seen, not-false r e) (p ∙ (λ i. found (teid-seen i) (s i)))
+
+pub ruleset tested8 = (datagram-seen, tested, flag-clear, flag-set)
 
 -- row 8 refuses alike over IPv6 and over IPv4
 refused-alike : (u : List ℕ) (bs : List Bool) (ρ ρ′ : Refusal) (rs : List Row)

@@ -13,7 +13,8 @@ use Rattle.rules.specs.Header.{header, malformed}
 use Rattle.rules.specs.Datagram.{datagram, messageRows}
 use Rattle.rules.specs.Carried.{datagramIn6, datagramIn4}
 use Rattle.rules.specs.Gtp6D.{gtp6Rows}
-use Rattle.rules.specs.D4.{header4, malformed4, badHeader4, gtp4Rows}
+use Rattle.rules.specs.D4.{gtp4Rows}
+use Rattle.rules.specs.Header4.{header4, malformed4, badHeader4}
 use Rattle.rules.specs.declared.Datagram.{Datagram}
 use Rattle.rules.specs.declared.Verdict.{Verdict}
 use Rattle.rules.specs.declared.Verdict.the-variants.{Pass, Refuse}

@@ -1,22 +1,15 @@
 // TEID and sequence number of a packet as it arrives, for the report of lost packets. Every test is one of the base's; no table is asked,
 // and nothing is copied but the headers.
 ghost use mathlib.Core.Path.{_≡_};
-ghost use Prim.Native.Nat.{_+_, _*_};
+ghost use Prim.Native.Nat.{_+_, _*_, _/_, _%_, _<_};
+ghost use lib.Dec.{eqb};
 ghost use lib.ListN.{drop};
+ghost use Rattle.rules.specs.Octets.{number};
 ghost use Rattle.rules.specs.Gtpu as Gtpu;
-ghost use Rattle.rules.specs.Assigned.{gPdu};
-ghost use Rattle.rules.specs.Answer.{differs, verdict};
-ghost use Rattle.rules.specs.Datagram.{messageRows};
-ghost use Rattle.sequence.specs.Sequence.{passes, numbered, teid, found, sequenceUnless, sequence6, sequence4};
-ghost use Rattle.sequence.specs.Parts.{rows8To11, sequenceIn};
+ghost use Rattle.sequence.specs.Sequence.{found, sequence6, sequence4};
+ghost use Rattle.sequence.specs.Parts.{sequenceIn};
 
-const G_PDU: u8 = 255;
-
-// Places in a datagram, its UDP header included (TS 29.281, 5.1).
-const FLAGS_AT: usize = 8;
-
-const TEID_AT: usize = 12;
-
+// Where the sequence number stands in a datagram, its UDP header included (TS 29.281, 5.1).
 const NUMBER_AT: usize = 16;
 
 // Where the datagram of an IPv4 packet without options begins.
@@ -25,90 +18,70 @@ const IPV4_SIZE: usize = 20;
 // Bit 48 of what is found: it is set, so that TEID 0 with number 0 is not 0.
 const FOUND: u64 = 0x1000000000000;
 
-// Row 11.
-fn not_gpdu(g: rules::Datagram) -> bool
-    ensures { λ r. ⌜ r ≡ differs (g .messageType) gPdu ⌝ }
-{
-    g.messageType != G_PDU
-}
-
-fn passes(v: rules::Verdict) -> bool
-    ensures { λ r. ⌜ r ≡ passes v ⌝ }
-{
-    match v {
-        rules::Verdict::Pass => true,
-        rules::Verdict::Refuse(r) => false,
-    }
-}
-
-// Rows 9 and 10 pass.
-fn is_message(g: rules::Datagram) -> bool
-    ensures { λ r. ⌜ r ≡ passes (verdict (messageRows g)) ⌝ }
-{
-    passes(gtpu::judge_message(g))
-}
-
 // The flag S.
-fn is_numbered(front: [u8; 24]) -> bool
-    ensures { λ r. ⌜ r ≡ numbered front ⌝ }
+fn is_numbered(g: rules::Datagram) -> bool
+    ensures { λ r. ⌜ r ≡ eqb (g .flags / 2 % 2) 1 ⌝ }
 {
-    front[FLAGS_AT] / 2 % 2 == 1
+    g.flags / 2 % 2 == 1
 }
 
+// A number of four octets.
 fn join32(hi: u16, lo: u16) -> u32
     ensures { λ r. ⌜ r ≡ hi * 65536 + lo ⌝ }
 {
     (hi as u32) * 65536 + (lo as u32)
 }
 
-fn teid_of(front: [u8; 24]) -> u32
-    ensures { λ r. ⌜ r ≡ teid front ⌝ }
+// The TEID as a number.
+fn teid_of(g: rules::Datagram) -> u32
+    ensures { λ r. ⌜ r ≡ number (g .teid) 0 4 ⌝ }
 {
     join32(
-        octets::join16(front[TEID_AT], front[TEID_AT + 1]),
-        octets::join16(front[TEID_AT + 2], front[TEID_AT + 3]),
+        octets::join16(g.teid[0], g.teid[1]),
+        octets::join16(g.teid[2], g.teid[3]),
     )
 }
 
-fn number_of(front: [u8; 24]) -> u16
-    ensures { λ r. ⌜ r ≡ Gtpu.sequenceNumber front ⌝ }
+// The sequence number of the datagram that begins at octet `at` of a packet.
+fn number_at(packet: &[u8], at: usize) -> u16
+    requires { ⌜ at < 65536 ⌝ }
+    ensures { λ r. ⌜ r ≡ Gtpu.sequenceNumber (drop at (now (packet .entry))) ⌝ }
 {
-    octets::join16(front[NUMBER_AT], front[NUMBER_AT + 1])
+    octets::join16(
+        octets::octet_or_0(packet, at + NUMBER_AT),
+        octets::octet_or_0(packet, at + NUMBER_AT + 1),
+    )
 }
 
+// Both in one number.
 fn pack(teid: u32, number: u16) -> u64
     ensures { λ r. ⌜ r ≡ found teid number ⌝ }
 {
     FOUND + (teid as u64) * 65536 + (number as u64)
 }
 
-// Rows 8 to 11 and S of a datagram that begins with `front`.
-fn sequence_of(protocol: u8, front: [u8; 24], g: rules::Datagram) -> u64
-    ensures { λ r. ⌜ r ≡ sequenceUnless (rows8To11 protocol g) front ⌝ }
+// Rows 8 to 11 and S of the datagram that begins at octet `at` of a packet.
+fn sequence_at(packet: &[u8], at: usize, protocol: u8) -> u64
+    requires { ⌜ at < 65536 ⌝ }
+    ensures { λ r. ⌜ r ≡ sequenceIn protocol (drop at (now (packet .entry))) ⌝ }
 {
+    let g = gtpu::datagram_at(packet, at);
     if gtpu::not_gtpu(protocol, g) {
         return 0;
     }
-    if !is_message(g) {
+    if gtpu::bad_udp(g) {
         return 0;
     }
-    if not_gpdu(g) {
+    if gtpu::bad_gtpu(g) {
         return 0;
     }
-    if !is_numbered(front) {
+    if gtpu::not_gpdu(g) {
         return 0;
     }
-    pack(teid_of(front), number_of(front))
-}
-
-// The datagram that begins at octet `at` of a packet. No row up to 11 asks for the type behind its extension, which is not read.
-fn sequence_at(packet: &[u8], at: usize, protocol: u8) -> u64
-    ensures { λ r. ⌜ r ≡ sequenceIn protocol (drop at (now (packet .entry))) ⌝ }
-{
-    let front = octets::window24(packet, at);
-    let size = octets::less(packet.len(), at);
-    let g = gtpu::datagram_of(front, size, 0);
-    sequence_of(protocol, front, g)
+    if !is_numbered(g) {
+        return 0;
+    }
+    pack(teid_of(g), number_at(packet, at))
 }
 
 // Of an IPv6 packet.

@@ -52,15 +52,15 @@ pub reversing-next : (o : List ℕ) (at : ℕ) (s : List ℕ) (from n : ℕ) (ou
     → at + 16 * n ≤ length o → x ≡ window s (from + 16 * k) 16 → out′ ≡ splice out (at + 16 * (n - k - 1)) x → length out′ ≡ length out
     → Reversing o at s from n out′ (k + 1)
 reversing-next o at s from n out out′ x k r h room hx e l =
-    let y = reversed s from k in
+    let before = reversed s from k in
     let w = window s (from + 16 * k) 16 in
     let lw = window-length s (from + 16 * k) 16 in
-    let ly = reversed-length s from k in
+    let lb = reversed-length s from k in
     let place : at + 16 * (n - (k + 1)) ≡ at + 16 * (n - k - 1) = omega arith in
     let e′ : out′ ≡ splice out (at + 16 * (n - k - 1)) w = e ∙ ap (λ (x : List ℕ). splice out (at + 16 * (n - k - 1)) x) hx in
     record {
       here = omega arith;
-      holds = rw (place, reversed-more s from k) (chain-prev o (at + 16 * (n - k - 1)) w y (r .holds) e′ (omega arith) (omega arith));
+      holds = rw (place, reversed-more s from k) (chain-prev o (at + 16 * (n - k - 1)) w before (r .holds) e′ (omega arith) (omega arith));
       long = l ∙ r .long;
     }
 

@@ -18,7 +18,7 @@ use Rattle.rules.specs.Policy as Policy
 use Rattle.rules.specs.Sound.{all, distinct, whereUsed, sameEntryPrefix, sameRulePrefix, entryLimit, headerConditions, headerSound, soundWithin, sound, usesSession, usesPolicy, usesStart, usesPlaces, behaviourKnown, directionKnown, sessionKnown, startWithin, prefixBeforeArgs, pWithin, qWithin, prefixBeforeAddress, reservedClear, entryConditions, entrySound, rulePrefixClear, sidPrefixClear, sourcePrefixClear, ruleConditions, ruleSound, policyConditions, policySound}
 use Rattle.rules.proofs.Conditions.{and-left, and-right}
 use Rattle.rules.proofs.Windows.{octet-window}
-use Rattle.prefix.proofs.Words.{number-parts}
+use Rattle.octets.proofs.Words.{number-parts}
 use Rattle.table.specs.Results.{Front, Single}
 use Rattle.table.proofs.Conditions.{holds-every}
 
@@ -85,10 +85,11 @@ sound-rule r o a b c =
     holds-every (ruleConditions r)
     (o .bits, (a, (o .hopLimit, (o .direction, (o .session, (o .p, (o .q, (b, (c, (o .waypoints, (o .reserved, tt)))))))))))
 
-pub sound-policy : (y : List ℕ) → leb 1 (Policy.sidCount y) ≡ true → leb (Policy.sidCount y) 8 ≡ true → startWithin (Policy.start y) ≡ true → reservedClear (Policy.reserved y) ≡ true
-    → policySound y ≡ true
+pub sound-policy : (policy : List ℕ) → leb 1 (Policy.sidCount policy) ≡ true → leb (Policy.sidCount policy) 8 ≡ true
+    → startWithin (Policy.start policy) ≡ true → reservedClear (Policy.reserved policy) ≡ true
+    → policySound policy ≡ true
 unfolding policySound
-sound-policy y least most s r = holds-every (policyConditions y) (rw (least, most) refl, (s, (r, tt)))
+sound-policy policy least most s r = holds-every (policyConditions policy) (rw (least, most) refl, (s, (r, tt)))
 
 -- A TABLE
 

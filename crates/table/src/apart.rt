@@ -12,7 +12,7 @@ use crate::entry;
 use crate::faults;
 use crate::records;
 use crate::rule;
-use prefix::numbers;
+use octets::numbers;
 
 // Their conditions' numbers.
 const ENTRY_REPEATED: u8 = 14;

@@ -9,7 +9,8 @@ ghost use Rattle.table.specs.Results.{Lent, Front};
 use crate::faults::unless;
 use crate::fields;
 use crate::records;
-use prefix::numbers;
+use octets::numbers;
+use rules::assigned;
 
 pub const BEHAVIOUR: usize = 0;
 
@@ -39,17 +40,6 @@ pub const PREFIX: usize = 16;
 
 pub const SOURCE: usize = 32;
 
-// Behaviours (IANA, SRv6 Endpoint Behaviors).
-pub const END: u8 = 1;
-
-pub const END_M_GTP6_D: u8 = 69;
-
-pub const END_M_GTP6_D_DI: u8 = 70;
-
-pub const END_M_GTP6_E: u8 = 71;
-
-pub const END_M_GTP4_E: u8 = 72;
-
 pub(crate) fn prefix_of(e: &[u8]) -> &[u8]
     requires { ⌜ length (now e) ≡ 64 ⌝ }
     ensures { λ r. ⌜ Lent (now r) (prefix (now (e .entry))) 16 ⌝ }
@@ -62,10 +52,10 @@ fn behaviour_known(e: &[u8]) -> bool
     ensures { λ r. ⌜ r ≡ behaviourKnown (now (e .entry)) ⌝ }
 {
     let behaviour = e[BEHAVIOUR];
-    (behaviour == END)
-        | ((behaviour == END_M_GTP6_D)
-            | ((behaviour == END_M_GTP6_D_DI)
-                | ((behaviour == END_M_GTP6_E) | (behaviour == END_M_GTP4_E))))
+    (behaviour == assigned::END)
+        | ((behaviour == assigned::END_M_GTP6_D)
+            | ((behaviour == assigned::END_M_GTP6_D_DI)
+                | ((behaviour == assigned::END_M_GTP6_E) | (behaviour == assigned::END_M_GTP4_E))))
 }
 
 fn prefix_clear(e: &[u8]) -> bool
@@ -80,7 +70,8 @@ fn policy_exists(e: &[u8], policies: usize) -> bool
     ensures { λ r. ⌜ r ≡ policyExists policies (now (e .entry)) ⌝ }
 {
     let behaviour = e[BEHAVIOUR];
-    let uses_policy = (behaviour == END_M_GTP6_D) | (behaviour == END_M_GTP6_D_DI);
+    let uses_policy = (behaviour == assigned::END_M_GTP6_D)
+        | (behaviour == assigned::END_M_GTP6_D_DI);
     !uses_policy | (octets::wide(e[POLICY]) < policies)
 }
 
@@ -97,9 +88,9 @@ pub(crate) fn broken(e: &[u8], policies: usize) -> u8
     ensures { λ r. ⌜ r ≡ entryBroken policies (now (e .entry)) ⌝ }
 {
     let behaviour = e[BEHAVIOUR];
-    let uses_session = !(behaviour == END);
-    let uses_start = behaviour == END_M_GTP6_E;
-    let uses_places = behaviour == END_M_GTP4_E;
+    let uses_session = !(behaviour == assigned::END);
+    let uses_start = behaviour == assigned::END_M_GTP6_E;
+    let uses_places = behaviour == assigned::END_M_GTP4_E;
     let bits = e[PREFIX_LENGTH];
     let from_13 = unless(e[RESERVED] == 0, 13, 0);
     let from_12 = unless(!uses_places | prefix_before_address(e), 12, from_13);
@@ -167,7 +158,7 @@ pub(crate) fn surely_sound(e: &[u8], policies: usize) -> bool
         return false;
     }
     let behaviour = e[BEHAVIOUR];
-    if behaviour == END {
+    if behaviour == assigned::END {
         return true;
     }
     if !fields::direction_known(e[DIRECTION]) {
@@ -177,16 +168,16 @@ pub(crate) fn surely_sound(e: &[u8], policies: usize) -> bool
         return false;
     }
     // D and Di are neighbours: two comparisons are fewer than a jump by table.
-    if behaviour <= END_M_GTP6_D_DI {
-        if behaviour < END_M_GTP6_D {
+    if behaviour <= assigned::END_M_GTP6_D_DI {
+        if behaviour < assigned::END_M_GTP6_D {
             return false;
         }
         return octets::wide(e[POLICY]) < policies;
     }
-    if behaviour == END_M_GTP6_E {
+    if behaviour == assigned::END_M_GTP6_E {
         return start_sound(e);
     }
-    if behaviour == END_M_GTP4_E {
+    if behaviour == assigned::END_M_GTP4_E {
         return places_sound(e);
     }
     false

@@ -1,19 +1,7 @@
 // What fields of several kinds of record may hold.
 ghost use mathlib.Core.Path.{_≡_};
 ghost use Rattle.rules.specs.Sound.{directionKnown, sessionKnown, startWithin};
-
-pub const DOWNLINK: u8 = 0;
-
-pub const UPLINK: u8 = 1;
-
-// PDU session types (TS 24.501).
-pub const IPV4_SESSION: u8 = 1;
-
-pub const IPV6_SESSION: u8 = 2;
-
-pub const IPV4V6_SESSION: u8 = 3;
-
-pub const ETHERNET_SESSION: u8 = 5;
+use rules::assigned;
 
 // Octets of an address.
 pub const IPV4_SIZE: usize = 4;
@@ -31,15 +19,15 @@ const START_MOST: u8 = 88;
 pub(crate) fn direction_known(direction: u8) -> bool
     ensures { λ r. ⌜ r ≡ directionKnown direction ⌝ }
 {
-    (direction == DOWNLINK) | (direction == UPLINK)
+    (direction == assigned::DOWNLINK) | (direction == assigned::UPLINK)
 }
 
 pub(crate) fn session_known(session: u8) -> bool
     ensures { λ r. ⌜ r ≡ sessionKnown session ⌝ }
 {
-    (session == IPV4_SESSION)
-        | ((session == IPV6_SESSION)
-            | ((session == IPV4V6_SESSION) | (session == ETHERNET_SESSION)))
+    (session == assigned::IPV4_SESSION)
+        | ((session == assigned::IPV6_SESSION)
+            | ((session == assigned::IPV4V6_SESSION) | (session == assigned::ETHERNET_SESSION)))
 }
 
 pub(crate) fn start_within(start: u8) -> bool

@@ -16,29 +16,33 @@ pub const RESERVED: usize = 2;
 pub const SIDS: usize = 16;
 
 // The condition that the policy breaks first.
-pub(crate) fn broken(y: &[u8]) -> u8
-    requires { ⌜ length (now y) ≡ 288 ⌝ }
-    ensures { λ r. ⌜ r ≡ policyBroken (now (y .entry)) ⌝ }
+pub(crate) fn broken(policy: &[u8]) -> u8
+    requires { ⌜ length (now policy) ≡ 288 ⌝ }
+    ensures { λ r. ⌜ r ≡ policyBroken (now (policy .entry)) ⌝ }
 {
-    let from_3 = unless(y[RESERVED] == 0, 3, 0);
-    let from_2 = unless(fields::start_within(y[START]), 2, from_3);
-    unless((1 <= y[SID_COUNT]) & (y[SID_COUNT] <= 8), 1, from_2)
+    let from_3 = unless(policy[RESERVED] == 0, 3, 0);
+    let from_2 = unless(fields::start_within(policy[START]), 2, from_3);
+    unless(
+        (1 <= policy[SID_COUNT]) & (policy[SID_COUNT] <= 8),
+        1,
+        from_2,
+    )
 }
 
 // True only of a sound policy; false says nothing.
-pub(crate) fn surely_sound(y: &[u8]) -> bool
-    requires { ⌜ length (now y) ≡ 288 ⌝ }
-    ensures { λ r. ⌜ (r ≡ true → policySound (now (y .entry)) ≡ true) ⌝ }
+pub(crate) fn surely_sound(policy: &[u8]) -> bool
+    requires { ⌜ length (now policy) ≡ 288 ⌝ }
+    ensures { λ r. ⌜ (r ≡ true → policySound (now (policy .entry)) ≡ true) ⌝ }
 {
-    let count = y[SID_COUNT];
+    let count = policy[SID_COUNT];
     if count == 0 {
         return false;
     }
     if 8 < count {
         return false;
     }
-    if y[RESERVED] != 0 {
+    if policy[RESERVED] != 0 {
         return false;
     }
-    fields::start_within(y[START])
+    fields::start_within(policy[START])
 }

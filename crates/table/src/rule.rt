@@ -9,7 +9,7 @@ ghost use Rattle.table.specs.Results.{Lent, Single};
 use crate::faults::unless;
 use crate::fields;
 use crate::records;
-use prefix::numbers;
+use octets::numbers;
 
 pub const PREFIX_LENGTH: usize = 0;
 

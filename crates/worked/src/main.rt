@@ -1,7 +1,7 @@
 // Reads calls from standard input, makes each, and prints its name and what came of it: the answer's fields and the octets sent, or TEID
 // and sequence number of the packet. The second program writes the input and what is to be printed (tests/second/src/program.rs, which
 // says how a call stands there).
-use gateway::answer::Answer;
+use answer::Answer;
 use libc::STDIN_FILENO;
 use libc::STDOUT_FILENO;
 ghost use Rattle.io.specs.Counts.{Counts};

@@ -9,7 +9,8 @@ returns : tie.Need-returns
 returns c =
     let s = c .before .before .before .before .before in
     c .from-container .ensures
-    ∙ args-read (now (s .args .packet)) _ (s .args .at) _ _ (c .before .before .before .window24 .ensures) (c .before .before .pdu-type .ensures) (c .before .teid-of .ensures)
+    ∙ args-read (now (s .args .packet)) _ (s .args .at) _ _ (c .before .before .before .window24 .ensures)
+    (c .before .before .pdu-type .ensures) (c .before .teid-of .ensures)
 
 pub args-at-spec : {M : Type 1} → statement M
 args-at-spec =

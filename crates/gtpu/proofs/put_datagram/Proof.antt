@@ -14,7 +14,8 @@ returns c =
     let t = c .before .before .before .before .before .before .teid in
     let f = c .before .before .before .before .before .flow-octet in
     run-as (first (now (a .out)) (a .at) _ 24 (c .before .before .copy-to .ensures) refl)
-    (datagram-written (a .port) (a .direction) (a .size) (f .result) (t .result) (value (a .args)) (omega (arith, t)) (t .ensures) (f .ensures))
+    (datagram-written (a .port) (a .direction) (a .size) (f .result) (t .result) (value (a .args)) (omega (arith, t)) (t .ensures)
+    (f .ensures))
 
 pub put-datagram-spec : {M : Type 1} → statement M
 put-datagram-spec =

@@ -8,78 +8,6 @@ use borrow.Author.Needs.{needs}
 use Rattle.ip.proofs.header_sum.Statement.{statement}
 use Rattle.ip.proofs.header_sum.Tie as tie
 
-array-read-five : tie.Need-array-read-five
-array-read-five c = search needs
-
-array-read-five-2 : tie.Need-array-read-five-2
-array-read-five-2 c = search needs
-
-array-read-five-3 : tie.Need-array-read-five-3
-array-read-five-3 c = search needs
-
-array-read-five-4 : tie.Need-array-read-five-4
-array-read-five-4 c = search needs
-
-array-read-five-5 : tie.Need-array-read-five-5
-array-read-five-5 c = search needs
-
-array-read-five-6 : tie.Need-array-read-five-6
-array-read-five-6 c = search needs
-
-array-read-five-7 : tie.Need-array-read-five-7
-array-read-five-7 c = search needs
-
-array-read-five-8 : tie.Need-array-read-five-8
-array-read-five-8 c = search needs
-
-array-read-five-9 : tie.Need-array-read-five-9
-array-read-five-9 c = search needs
-
-array-read-five-10 : tie.Need-array-read-five-10
-array-read-five-10 c = search needs
-
-five-requires : tie.Need-five-requires
-five-requires c κs = search needs
-
-array-read-five-11 : tie.Need-array-read-five-11
-array-read-five-11 c = search needs
-
-array-read-five-12 : tie.Need-array-read-five-12
-array-read-five-12 c = search needs
-
-array-read-five-13 : tie.Need-array-read-five-13
-array-read-five-13 c = search needs
-
-array-read-five-14 : tie.Need-array-read-five-14
-array-read-five-14 c = search needs
-
-array-read-five-15 : tie.Need-array-read-five-15
-array-read-five-15 c = search needs
-
-array-read-five-16 : tie.Need-array-read-five-16
-array-read-five-16 c = search needs
-
-array-read-five-17 : tie.Need-array-read-five-17
-array-read-five-17 c = search needs
-
-array-read-five-18 : tie.Need-array-read-five-18
-array-read-five-18 c = search needs
-
-array-read-five-19 : tie.Need-array-read-five-19
-array-read-five-19 c = search needs
-
-array-read-five-20 : tie.Need-array-read-five-20
-array-read-five-20 c = search needs
-
-five-requires-2 : tie.Need-five-requires-2
-five-requires-2 c κs = search needs
-
-add-folded : tie.Need-add-folded
-add-folded c = search needs
-
-folded-requires : tie.Need-folded-requires
-folded-requires c κs = search needs
-
 returns : tie.Need-returns
 unfolding window wordSum
 returns c =
@@ -94,28 +22,28 @@ pub header-sum-spec : {M : Type 1} → statement M
 header-sum-spec =
     tie.close
     (tie.spec
-    array-read-five
-    array-read-five-2
-    array-read-five-3
-    array-read-five-4
-    array-read-five-5
-    array-read-five-6
-    array-read-five-7
-    array-read-five-8
-    array-read-five-9
-    array-read-five-10
-    five-requires
-    array-read-five-11
-    array-read-five-12
-    array-read-five-13
-    array-read-five-14
-    array-read-five-15
-    array-read-five-16
-    array-read-five-17
-    array-read-five-18
-    array-read-five-19
-    array-read-five-20
-    five-requires-2
-    add-folded
-    folded-requires
+    (λ c. search needs)
+    (λ c. search needs)
+    (λ c. search needs)
+    (λ c. search needs)
+    (λ c. search needs)
+    (λ c. search needs)
+    (λ c. search needs)
+    (λ c. search needs)
+    (λ c. search needs)
+    (λ c. search needs)
+    (λ c κs. search needs)
+    (λ c. search needs)
+    (λ c. search needs)
+    (λ c. search needs)
+    (λ c. search needs)
+    (λ c. search needs)
+    (λ c. search needs)
+    (λ c. search needs)
+    (λ c. search needs)
+    (λ c. search needs)
+    (λ c. search needs)
+    (λ c κs. search needs)
+    (λ c. search needs)
+    (λ c κs. search needs)
     returns)

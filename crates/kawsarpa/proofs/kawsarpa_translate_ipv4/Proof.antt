@@ -1,5 +1,5 @@
-use Rattle.gateway.proofs.Settling.{packed-answer}
-use Rattle.gateway.specs.declared.answer.Answer.{Answer}
+use Rattle.answer.proofs.Settling.{packed-answer}
+use Rattle.answer.specs.declared.Answer.{Answer}
 use Rattle.rules.specs.Calls.{translate4}
 use Rattle.rules.specs.Answer.{packedFields}
 use denote.Ref.{now}

@@ -16,12 +16,12 @@ entry-at-requires c κs =
     let c12 = c6 .before .before .before .before .before .before in
     let a = c12 .before .args in
     let d : ℕ = octet (now (a .e)) 3 in
-    let y : List ℕ = now (a .y) in
+    let policy : List ℕ = now (a .policy) in
     let t : List ℕ = now (a .far) in
     let count = c6 .before .before .wide .ensures .0 in
-    let before = c6 .before .less .ensures ∙ ap (λ (n : ℕ). n - 1) count in
-    let last = c6 .window16 .ensures ∙ ap (λ (n : ℕ). window y (16 + 16 * n) 16) before in
-    let r = c .before .before .before .reach6 .ensures ∙ ap (λ (sid : List ℕ). reach6 t d sid (octet y 1)) last in
+    let before = c6 .before .saturating-sub .ensures ∙ ap (λ (n : ℕ). n - 1) count in
+    let last = c6 .window16 .ensures ∙ ap (λ (n : ℕ). window policy (16 + 16 * n) 16) before in
+    let r = c .before .before .before .reach6 .ensures ∙ ap (λ (sid : List ℕ). reach6 t d sid (octet policy 1)) last in
     let m = sym r ∙ c .before .found .given .1 in
     omega (arith, reach6-below t _ _ _ _ m)
 
@@ -31,12 +31,12 @@ told-requires c κs =
     let c12 = c6 .before .before .before .before .before .before in
     let a = c12 .before .before .before .args in
     let d : ℕ = octet (now (a .e)) 3 in
-    let y : List ℕ = now (a .y) in
+    let policy : List ℕ = now (a .policy) in
     let t : List ℕ = now (a .far) in
     let count = c6 .before .before .before .before .wide .ensures .0 in
-    let before = c6 .before .before .before .less .ensures ∙ ap (λ (n : ℕ). n - 1) count in
-    let last = c6 .before .before .window16 .ensures ∙ ap (λ (n : ℕ). window y (16 + 16 * n) 16) before in
-    let r = c .before .before .before .before .before .reach6 .ensures ∙ ap (λ (sid : List ℕ). reach6 t d sid (octet y 1)) last in
+    let before = c6 .before .before .before .saturating-sub .ensures ∙ ap (λ (n : ℕ). n - 1) count in
+    let last = c6 .before .before .window16 .ensures ∙ ap (λ (n : ℕ). window policy (16 + 16 * n) 16) before in
+    let r = c .before .before .before .before .before .reach6 .ensures ∙ ap (λ (sid : List ℕ). reach6 t d sid (octet policy 1)) last in
     let m = sym r ∙ c .before .before .before .found .given .1 in
     omega (arith, reach6-below t _ _ _ _ m)
 
@@ -46,12 +46,12 @@ returns c =
     let c12 = c6 .before .before .before .before .before .before in
     let a = c12 .args in
     let d : ℕ = octet (now (a .e)) 3 in
-    let y : List ℕ = now (a .y) in
+    let policy : List ℕ = now (a .policy) in
     let t : List ℕ = now (a .far) in
     let count = c6 .before .wide .ensures .0 in
-    let before = c6 .less .ensures ∙ ap (λ (n : ℕ). n - 1) count in
-    let last = c .before .before .before .before .before .window16 .ensures ∙ ap (λ (n : ℕ). window y (16 + 16 * n) 16) before in
-    let r = c .before .before .reach6 .ensures ∙ ap (λ (sid : List ℕ). reach6 t d sid (octet y 1)) last in
+    let before = c6 .saturating-sub .ensures ∙ ap (λ (n : ℕ). n - 1) count in
+    let last = c .before .before .before .before .before .window16 .ensures ∙ ap (λ (n : ℕ). window policy (16 + 16 * n) 16) before in
+    let r = c .before .before .reach6 .ensures ∙ ap (λ (sid : List ℕ). reach6 t d sid (octet policy 1)) last in
     let m = sym r ∙ c .enum-told .given .1 in
     rw m refl
 
@@ -61,12 +61,12 @@ returns-2 c =
     let c12 = c6 .before .before .before .before .before .before in
     let a = c12 .before .before .before .before .args in
     let d : ℕ = octet (now (a .e)) 3 in
-    let y : List ℕ = now (a .y) in
+    let policy : List ℕ = now (a .policy) in
     let t : List ℕ = now (a .far) in
     let count = c6 .before .before .before .before .before .wide .ensures .0 in
-    let before = c6 .before .before .before .before .less .ensures ∙ ap (λ (n : ℕ). n - 1) count in
-    let last = c6 .before .before .before .window16 .ensures ∙ ap (λ (n : ℕ). window y (16 + 16 * n) 16) before in
-    let r = c6 .reach6 .ensures ∙ ap (λ (sid : List ℕ). reach6 t d sid (octet y 1)) last in
+    let before = c6 .before .before .before .before .saturating-sub .ensures ∙ ap (λ (n : ℕ). n - 1) count in
+    let last = c6 .before .before .before .window16 .ensures ∙ ap (λ (n : ℕ). window policy (16 + 16 * n) 16) before in
+    let r = c6 .reach6 .ensures ∙ ap (λ (sid : List ℕ). reach6 t d sid (octet policy 1)) last in
     let m = sym r ∙ c .before .before .before .before .found .given .1 in
     rw (m, ← c .before .before .entry-at .ensures .same, ← c .before .between6 .ensures) (c .told .ensures)
 

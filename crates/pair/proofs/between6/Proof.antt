@@ -16,14 +16,14 @@ returns c =
     let c18 = c12 .before .before .before .before .before .before in
     let a = c18 .before .before .args in
     let e : List ℕ = now (a .e) in
-    let y : List ℕ = now (a .y) in
+    let policy : List ℕ = now (a .policy) in
     let f : List ℕ = now (a .f) in
-    let n = c12 .before .before .less .ensures ∙ ap (λ (n : ℕ). n - 1) (c12 .before .before .before .wide .ensures .0) in
+    let n = c12 .before .before .saturating-sub .ensures ∙ ap (λ (n : ℕ). n - 1) (c12 .before .before .before .wide .ensures .0) in
     let h = c12 .wide2 .ensures .0 in
     behind 6 (itself (eqb (octet f 0) 71)) (c .unless5 .ensures)
     (behind 7 (itself (eqb (octet f 3) (octet e 3))) (c .before .before .unless4 .ensures)
     (behind 8 (itself (eqb (octet f 4) (octet e 4))) (c .before .before .before .before .before .unless3 .ensures)
-    (behind 9 (itself (eqb (octet f 6) (octet y 1))) (c6 .before .before .unless2 .ensures)
+    (behind 9 (itself (eqb (octet f 6) (octet policy 1))) (c6 .before .before .unless2 .ensures)
     (behind 12 (λ i. ltb (n i) (h i)) (c6 .before .before .before .before .before .unless .ensures) refl))))
 
 pub between6-spec : {M : Type 1} → statement M

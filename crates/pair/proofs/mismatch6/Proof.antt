@@ -97,8 +97,8 @@ policy-at-requires c κs =
     let l : i < entries near = rw (← c6 .entries .ensures .value) (c .before .before .before .before .before .if3 .left) in
     let e = c .before .before .before .before .entry-at .ensures .same in
     let b : Entry.behaviour (entryAt near i) ≡ 70 = ap (λ (r : List ℕ). octet r 0) (sym e) ∙ c .before .before .if4 .left in
-    let y = c .wide .ensures .0 ∙ ap (λ (r : List ℕ). octet r 5) e in
-    rw y (di-policy-within near i sn l b)
+    let policy = c .wide .ensures .0 ∙ ap (λ (r : List ℕ). octet r 5) e in
+    rw policy (di-policy-within near i sn l b)
 
 at-far6-requires : tie.Need-at-far6-requires
 at-far6-requires c κs =
@@ -115,9 +115,9 @@ at-far6-requires c κs =
     let e = c .before .before .before .before .before .entry-at .ensures .same in
     let b : Entry.behaviour (entryAt near i) ≡ 70 = ap (λ (r : List ℕ). octet r 0) (sym e) ∙ c .before .before .before .if4 .left in
     let n = c .before .wide .ensures .0 ∙ ap (λ (r : List ℕ). octet r 5) e in
-    let y = c .policy-at .ensures .same ∙ ap (policyAt near) n in
+    let policy = c .policy-at .ensures .same ∙ ap (policyAt near) n in
     let long = c .before .before .before .before .before .entry-at .ensures .long in
-    (long, c .policy-at .ensures .long, rw y (di-start near i sn l b), entries-within far sf, few-entries far sf)
+    (long, c .policy-at .ensures .long, rw policy (di-start near i sn l b), entries-within far sf, few-entries far sf)
 
 returns-5 : tie.Need-returns-5
 returns-5 c =
@@ -134,8 +134,8 @@ returns-5 c =
     let e = c6 .entry-at .ensures .same in
     let b : Entry.behaviour (entryAt near i) ≡ 70 = ap (λ (r : List ℕ). octet r 0) (sym e) ∙ c .before .before .before .before .if4 .left in
     let n = c .before .before .wide .ensures .0 ∙ ap (λ (r : List ℕ). octet r 5) e in
-    let y = c .before .policy-at .ensures .same ∙ ap (policyAt near) n in
-    c .at-far6 .ensures ∙ at-far6 near far i sn sf l b _ _ e y
+    let policy = c .before .policy-at .ensures .same ∙ ap (policyAt near) n in
+    c .at-far6 .ensures ∙ at-far6 near far i sn sf l b _ _ e policy
 
 pub mismatch6-spec : {M : Type 1} → statement M
 mismatch6-spec =

@@ -4,7 +4,7 @@ use native.Mathlib.Nat.{mod-eq-of-lt}
 use native.Mathlib.Omega.{arith}
 use Rattle.rules.specs.Octets.{number}
 use Rattle.rules.specs.Prefix.{clear}
-use Rattle.prefix.proofs.Words.{number-small}
+use Rattle.octets.proofs.Words.{number-small}
 use Rattle.prefix.proofs.Prefixes.{clear-front, clear-back, clear-set}
 use borrow.Author.Needs.{needs}
 use Rattle.prefix.proofs.clear16.Statement.{statement}
@@ -16,7 +16,11 @@ prefix-small k = number-small _ (λ i. k .shared-slice-known .given i .fits)
 returns : tie.Need-returns
 returns c =
     let k = c .before .before .before .before in
-    rw (clear-back _ 8 8 (k .before .args .bits) (prefix-small k 8 8) (omega arith), ← c .before .before .before .eight .ensures .value, ← c .before .less .ensures) (c .ends-clear .ensures)
+    rw (
+      clear-back _ 8 8 (k .before .args .bits) (prefix-small k 8 8) (omega arith),
+      ← c .before .before .before .eight .ensures .value,
+      ← c .before .saturating-sub .ensures,
+    ) (c .ends-clear .ensures)
 
 returns-2 : tie.Need-returns-2
 returns-2 c =

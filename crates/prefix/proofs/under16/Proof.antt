@@ -3,7 +3,7 @@ use Prim.Native.Nat.{ℕ, _*_, _^_, _<_}
 use native.Mathlib.Omega.{arith}
 use Rattle.rules.specs.Octets.{number}
 use Rattle.rules.specs.Prefix.{firstBits, under}
-use Rattle.prefix.proofs.Words.{number-small}
+use Rattle.octets.proofs.Words.{number-small}
 use Rattle.prefix.proofs.Prefixes.{under-none, under-front, under-same, under-differ}
 use borrow.Author.Needs.{needs}
 use Rattle.prefix.proofs.under16.Statement.{statement}
@@ -34,7 +34,12 @@ returns-3 c =
 returns-4 : tie.Need-returns-4
 returns-4 c =
     let k = c .before .before .before .before .before .before .before in
-    rw (c .before .before .less .ensures, under-same _ _ 8 8 (k .before .before .args .bits) (address-small k 8 8) (prefix-small k 8 8) (omega arith) (omega arith), c .before .eight3 .ensures .value, c .eight4 .ensures .value) refl
+    rw (
+      c .before .before .saturating-sub .ensures,
+      under-same _ _ 8 8 (k .before .before .args .bits) (address-small k 8 8) (prefix-small k 8 8) (omega arith) (omega arith),
+      c .before .eight3 .ensures .value,
+      c .eight4 .ensures .value,
+    ) refl
 
 pub under16-spec : {M : Type 1} → statement M
 under16-spec =

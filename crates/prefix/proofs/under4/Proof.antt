@@ -6,7 +6,7 @@ use Rattle.prefix.proofs.under4.Tie as tie
 
 returns : tie.Need-returns
 unfolding under firstBits
-returns c = rw (c .before .before .less .ensures, c .before .four .ensures .value, c .four2 .ensures .value) refl
+returns c = rw (c .before .before .saturating-sub .ensures, c .before .four .ensures .value, c .four2 .ensures .value) refl
 
 pub under4-spec : {M : Type 1} → statement M
 under4-spec =

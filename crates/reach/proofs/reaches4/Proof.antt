@@ -26,7 +26,7 @@ returns c =
     let args = c6 .before .before .before .before .own-args .ensures in
     let own =
     c6 .before .before .before .sid-of .ensures ∙ (λ i. withArgs (addressBehind (window r 16 16) (octet r 4) (to i)) n (args i)) in
-    let left = c .before .before .before .before .before .less .ensures ∙ (λ i. a .bits - 8 * p i) in
+    let left = c .before .before .before .before .before .saturating-sub .ensures ∙ (λ i. a .bits - 8 * p i) in
     let both = c .before .before .before .before .smaller .ensures ∙ (λ i. smaller (c6 .wide2 .ensures .0 i) (left i)) in
     λ i. (c .before .before .before .lies-under .ensures ∙ (λ j. under 16 (own j) (a .t2) (a .bits))) i
     && (c .under4 .ensures ∙ (λ j. under 4 (to j) (c6 .before .before .window42 .ensures j) (both j))) i

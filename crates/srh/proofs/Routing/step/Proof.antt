@@ -1,18 +1,39 @@
+use Rattle.rules.proofs.Judging.{judged}
+use Rattle.rules.specs.Waypoint.{stepRows}
+use mathlib.Core.Path.{sym}
 use borrow.Author.Needs.{needs}
 use Rattle.srh.proofs.Routing.step.Statement.{statement}
 use Rattle.srh.proofs.Routing.step.Tie as tie
 
-judge-requires : tie.Need-judge-requires
-judge-requires c κs = search needs
-
-one-less-requires : tie.Need-one-less-requires
-one-less-requires c κs = search needs
-
-one-less-requires-2 : tie.Need-one-less-requires-2
-one-less-requires-2 c κs = search needs
-
 returns : tie.Need-returns
-returns c = (c .before .before .judge .ensures, rw (c .before .one-less .ensures, c .one-less2 .ensures))
+unfolding stepRows
+returns c = sym (rw (c .hop-limit .ensures) (search judged depth 20))
+
+returns-2 : tie.Need-returns-2
+unfolding stepRows
+returns-2 c = sym (rw (c .segments-left .ensures) (search judged depth 20))
+
+returns-3 : tie.Need-returns-3
+unfolding stepRows
+returns-3 c = sym (rw (c .upper-layer .ensures) (search judged depth 20))
+
+returns-4 : tie.Need-returns-4
+unfolding stepRows
+returns-4 c = (sym (search judged depth 20), cc)
 
 pub step-spec : {M : Type 1} → statement M
-step-spec = tie.close (tie.spec judge-requires one-less-requires one-less-requires-2 returns)
+step-spec =
+    tie.close
+    (tie.spec
+    (λ c κs. search needs)
+    (λ c κs. search needs)
+    returns
+    (λ c κs. search needs)
+    (λ c κs. search needs)
+    returns-2
+    (λ c κs. search needs)
+    (λ c κs. search needs)
+    returns-3
+    (λ c κs. search needs)
+    (λ c κs. search needs)
+    returns-4)

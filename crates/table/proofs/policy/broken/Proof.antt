@@ -14,10 +14,10 @@ unfolding policyBroken
 returns c =
     let c₂ = c .before .before .before in
     let c₃ = c₂ .before .before .before in
-    let y : List ℕ = c₃ .before .before .before .args .y .now in
-    behind 1 (itself (sidsWithin y)) (c .unless3 .ensures)
+    let policy : List ℕ = c₃ .before .before .before .args .policy .now in
+    behind 1 (itself (sidsWithin policy)) (c .unless3 .ensures)
     (behind 2 (c₂ .before .start-within .ensures) (c₂ .unless2 .ensures)
-    (behind 3 (itself (reservedClear (Policy.reserved y))) (c₃ .unless .ensures) refl))
+    (behind 3 (itself (reservedClear (Policy.reserved policy))) (c₃ .unless .ensures) refl))
 
 pub broken-spec : {M : Type 1} → statement M
 broken-spec =

@@ -13,8 +13,9 @@ use Rattle.table.proofs.policy.surely_sound.Tie as tie
 
 returns-4 : tie.Need-returns-4
 returns-4 c = λ q.
-    let y : List ℕ = now (c .before .before .before .before .before .before .before .before .args .y) in
-    sound-policy y (le-leb 1 (octet y 0) (omega arith)) (le-leb (octet y 0) 8 (omega arith)) (sym (c .start-within .ensures) ∙ q) (eq-eqb _ _ (c .before .before .if3 .left))
+    let policy : List ℕ = now (c .before .before .before .before .before .before .before .before .args .policy) in
+    sound-policy policy (le-leb 1 (octet policy 0) (omega arith)) (le-leb (octet policy 0) 8 (omega arith))
+    (sym (c .start-within .ensures) ∙ q) (eq-eqb _ _ (c .before .before .if3 .left))
 
 pub surely-sound-spec : {M : Type 1} → statement M
 surely-sound-spec =

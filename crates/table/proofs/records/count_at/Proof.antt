@@ -1,5 +1,5 @@
 use mathlib.Core.Path.{_∙_}
-use Rattle.prefix.proofs.Words.{number-two}
+use Rattle.octets.proofs.Words.{number-two}
 use borrow.Author.Needs.{needs}
 use Rattle.table.proofs.records.count_at.Statement.{statement}
 use Rattle.table.proofs.records.count_at.Tie as tie

@@ -1,0 +1,20 @@
+-- `fields_of`: its value for each case.
+use borrow.Author.Needs.{needs}
+use Rattle.gtpu.specs.Extension.{fieldsOf}
+use Rattle.gtpu.proofs.extension.fields_of.Statement.{statement}
+use Rattle.gtpu.proofs.extension.fields_of.Tie as tie
+
+returns : tie.Need-returns
+unfolding fieldsOf
+returns c = rw (c .before .e .given .1)
+
+returns-2 : tie.Need-returns-2
+unfolding fieldsOf
+returns-2 c = rw (c .before .e2 .given .1)
+
+returns-3 : tie.Need-returns-3
+unfolding fieldsOf
+returns-3 c = rw (c .before .e3 .given .1)
+
+pub fields-of-spec : {M : Type 1} → statement M
+fields-of-spec = tie.close (tie.spec (λ c. search needs) (λ c. search needs) (λ c. search needs) returns returns-2 returns-3)

@@ -1,0 +1,2 @@
+pub mod AtGtp6D
+pub mod AtD4

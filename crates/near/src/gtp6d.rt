@@ -1,0 +1,155 @@
+// D: End.M.GTP6.D (RFC 9433, 6.3), and Di: End.M.GTP6.D.Di (6.4), the drop-in flow of 5.4. They differ in the tail of their path alone.
+use answer::Answer;
+use path::PathPlan;
+use path::gpdu;
+use rules::Refusal;
+use rules::Verdict;
+use rules::assigned;
+use table::entry;
+ghost use mathlib.Core.Path.{_≡_};
+ghost use mathlib.Core.List.{_++_};
+ghost use Prim.Native.Nat.{_≤_};
+ghost use lib.ListN.{length};
+ghost use Rattle.rules.specs.Entry as Entry;
+ghost use Rattle.rules.specs.SoundRecord.{SoundPolicy};
+ghost use Rattle.rules.specs.Answer.{verdict, settle};
+ghost use Rattle.rules.specs.Datagram.{messageRows, gPduRows, innerRows};
+ghost use Rattle.rules.specs.Gtp6D.{gtp6Rows};
+ghost use Rattle.rules.specs.Plan.{tailAt, atGtp6D};
+ghost use Rattle.args.specs.Value.{value};
+ghost use Rattle.answer.specs.Answered.{Answered};
+ghost use Rattle.near.specs.Asked.{Gtp6DAsked};
+ghost use Rattle.near.specs.Gtp6DPlan.{pathPlan};
+
+// How many addresses stand behind the waypoints of a path, by behaviour.
+pub fn tail_of(behaviour: u8) -> usize
+    ensures { λ r. ⌜ (r ≡ tailAt behaviour) × (1 ≤ r) × (r ≤ 2) ⌝ }
+{
+    if behaviour == assigned::END_M_GTP6_D {
+        return 1;
+    }
+    2
+}
+
+// Rows 5, 7 and 8.
+fn judge_outer(h: rules::Header, g: rules::Datagram) -> Verdict
+    ensures { λ r. ⌜ r ≡ verdict (gtp6Rows h g) ⌝ }
+{
+    if ip::bad_chain(h) {
+        return Verdict::Refuse(Refusal::bad_chain());
+    }
+    if ip::segments_remain(h) {
+        return Verdict::Refuse(Refusal::segments_left());
+    }
+    if gtpu::not_gtpu(h.upper, g) {
+        return Verdict::Refuse(Refusal::upper_layer(h.upperAt));
+    }
+    Verdict::Pass
+}
+
+// Rows 5 and 7 to 15, for an inner packet of `size` octets that begins with `first`, and the length field of what is to be sent.
+fn judge(
+    e: &[u8],
+    h: rules::Header,
+    g: rules::Datagram,
+    size: usize,
+    first: u8,
+    field: usize,
+) -> Verdict
+    requires { ⌜ length (now e) ≡ 64 ⌝ }
+    ensures { λ r. ⌜ r ≡ verdict (gtp6Rows h g ++ (messageRows g ++ (gPduRows (Entry.direction (now (e .entry))) g ++ innerRows
+        (Entry.session (now (e .entry))) size first field))) ⌝ }
+{
+    let outer = judge_outer(h, g);
+    match outer {
+        Verdict::Refuse(r) => Verdict::Refuse(r),
+        Verdict::Pass => gpdu::judge(
+            e[entry::DIRECTION],
+            e[entry::SESSION],
+            g,
+            size,
+            first,
+            field,
+        ),
+    }
+}
+
+// What is to be sent.
+fn plan_of(
+    e: &[u8],
+    policy: &[u8],
+    tail: usize,
+    class: u8,
+    args: args::Args,
+    first: u8,
+    to: [u8; 16],
+    place: usize,
+    size: usize,
+) -> PathPlan
+    requires { ⌜ (length (now e) ≡ 64) × (length (now policy) ≡ 288) × SoundPolicy (now policy) ⌝ }
+    ensures { λ r. ⌜ r ≡ pathPlan tail (now (e .entry)) (now (policy .entry)) class (value args) first to place size ⌝ }
+{
+    let n = octets::wide(policy[table::policy::SID_COUNT]);
+    let last = octets::window16(policy, table::policy::SIDS + 16 * (n - 1));
+    let sid = args.in_sid(last, policy[table::policy::START]);
+    let source = octets::window16(e, entry::SOURCE);
+    PathPlan {
+        trafficClass: class,
+        upper: gpdu::inner_next(e[entry::SESSION], first),
+        hopLimit: e[entry::HOP_LIMIT],
+        source,
+        sid,
+        end: to,
+        tail,
+        waypoints: n - 1,
+        from: table::policy::SIDS,
+        place,
+        size,
+    }
+}
+
+// The packet at an entry of D or Di, which has a policy.
+pub fn at_gtp6d(
+    e: &[u8],
+    policy: &[u8],
+    tail: usize,
+    h: rules::Header,
+    packet: &[u8],
+    out: &mut [u8],
+) -> Answer
+    requires { ⌜ Gtp6DAsked (now e) (now policy) tail (now packet) h ⌝ }
+    ensures { λ a. ⌜ Answered (settle (length (now (out .entry))) (atGtp6D tail (now (e .entry)) (now (policy .entry))
+        (now (packet .entry)))) (now (out .entry)) a (now (out .exit)) ⌝ }
+{
+    let count = octets::wide(policy[table::policy::SID_COUNT]) - 1 + tail;
+    let head = 48 + 16 * count;
+    let at = h.upperAt as usize;
+    let g = gtpu::datagram_at(packet, at);
+    let place = at + gtpu::inner_at(g);
+    let size = octets::saturating_sub(packet.len(), place);
+    let first = octets::octet_or_0(packet, place);
+    let v = judge(e, h, g, size, first, 8 + 16 * count + size);
+    match v {
+        Verdict::Refuse(r) => Answer::refused(r),
+        Verdict::Pass => {
+            let args = gtpu::args_at(packet, at);
+            let to = octets::window16(packet, 24);
+            let plan = plan_of(
+                e,
+                policy,
+                tail,
+                h.trafficClass,
+                args,
+                first,
+                to,
+                place,
+                size,
+            );
+            let a = answer::send(head, packet, place, out);
+            if a.number == 0 {
+                plan.put(policy, out);
+            }
+            a
+        }
+    }
+}
