@@ -1,6 +1,6 @@
 #!/usr/bin/env bash
-# run.sh LIB: kawsarpa.h by itself, the symbols of the archive, and calls.c, faults.c, losses.c and matches.c linked with it as C99, as
-# C++17 and beside the sanitizers.
+# run.sh LIB: kawsarpa.h by itself, the symbols of the archive, and calls.c, faults.c, losses.c, matches.c, sorted.c, largest.c and
+# apart.c linked with it as C99, as C++17 and beside the sanitizers; and that NDEBUG leaves no assertion in the calls.
 set -eu
 
 if [ $# -ne 1 ]; then
@@ -22,7 +22,7 @@ fail() {
 linked() { # WHAT COMPILER...
     local what=$1 program
     shift
-    for program in calls faults losses matches; do
+    for program in calls faults losses matches sorted largest apart; do
         "$@" -O2 -g -Werror -Wall -Wextra -Wpedantic -Wconversion -I "$include" -I "$work" -o "$work/$program" "$here/$program.c" \
             -x none "$lib" || fail "$program.c was not built: $what"
         if ! "$work/$program" >"$work/output" 2>&1; then
@@ -45,3 +45,11 @@ example "TABLES THAT FIT" >"$work/match.h"
 linked "C99" gcc -std=c99
 linked "C++17" g++ -x c++ -std=c++17
 linked "C99 with sanitizers" gcc -std=c99 -fsanitize=address,undefined -fno-sanitize-recover=all
+
+asserts() { # NDEBUG
+    gcc -std=c99 -O2 "$1" -I "$include" -c -o "$work/calls.o" "$here/calls.c"
+    nm --undefined-only "$work/calls.o" | grep -c __assert_fail || true
+}
+[ "$(asserts -UNDEBUG)" = 1 ] || fail "without NDEBUG the calls assert nothing"
+[ "$(asserts -DNDEBUG)" = 0 ] || fail "with NDEBUG an assertion is left in the calls"
+echo "assertions: in the calls without NDEBUG, none with it"

@@ -48,6 +48,13 @@ static int is_call(const char *field)
     return strcmp(field, "ipv6") == 0 || strcmp(field, "ipv4") == 0;
 }
 
+/* What kawsarpa.h says of the two constants: nothing that is sent is longer, and an output of such a size has room. */
+static int is_within_constants(uint64_t answer, size_t packet_len, size_t room)
+{
+    const size_t most = packet_len + KAWSARPA_GROWTH_MAX < KAWSARPA_OUT_MAX ? packet_len + KAWSARPA_GROWTH_MAX : KAWSARPA_OUT_MAX;
+    return kawsarpa_answer_length(answer) <= most && (kawsarpa_answer_number(answer) != KAWSARPA_ANSWER_NO_ROOM || room < most);
+}
+
 /* The tries of a line: 1: as expected, 0: a difference, -1: no line of vectors. */
 static int try_case(char *fields[FIELDS])
 {
@@ -68,7 +75,7 @@ static int try_case(char *fields[FIELDS])
         !equals(kawsarpa_answer_icmp_pointer(answer), fields[ICMP_POINTER]) ||
         !equals(kawsarpa_answer_length(answer), fields[LENGTH]) || kawsarpa_answer_length(answer) != (size_t)length)
         return 0;
-    if (memcmp(out, expected, (size_t)length) != 0)
+    if (memcmp(out, expected, (size_t)length) != 0 || !is_within_constants(answer, (size_t)packet_len, room))
         return 0;
     for (size_t i = (size_t)length; i < room + MARGIN; i++)
         if (out[i] != filler(i))
