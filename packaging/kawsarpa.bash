@@ -5,11 +5,11 @@
 _kawsarpa_options() { # COMMAND
     case $1 in
     compile) echo -o --output ;;
-    check) echo -i --inner ;;
-    match) echo --near --via --far --both ;;
+    check) echo -i --inner -q --quiet ;;
+    match) echo --near --via --far --both -q --quiet ;;
     explain) echo -f --fault -m --match ;;
-    translate) echo --table --trace ;;
-    trip) echo --near --via --far -o --output ;;
+    translate) echo --table --trace -q --quiet ;;
+    trip) echo --near --via --far -o --output -q --quiet ;;
     loss) echo --csv ;;
     esac
     echo --help --usage --version

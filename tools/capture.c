@@ -6,10 +6,28 @@
 
 #include "commands.h"
 #include "file.h"
-#include "frame.h"
 #include "say.h"
 
 enum { SNAPPED_SAID = 5 };
+
+/* Looks at the first octet and puts it back. What begins as gzip's does is no capture, so its second octet is not missed. */
+static bool is_gzip(FILE *file)
+{
+    const int first = getc(file);
+    if (file_is_gzip(first, 0x8B))
+        return file_is_gzip(first, getc(file));
+    if (first != EOF)
+        ungetc(first, file);
+    return false;
+}
+
+static int refuse_gzip(const struct capture_reader *reader, FILE *file)
+{
+    say_error_at(reader->name, 0, "%s", file_gzip_fault);
+    if (file != stdin)
+        fclose(file);
+    return EXIT_INPUT;
+}
 
 /* Opens the file and reads its head; the exit code. libpcap closes the file of a capture; after a fault it is left to us. */
 static int open_pcap(struct capture_reader *reader, const char *name)
@@ -20,6 +38,8 @@ static int open_pcap(struct capture_reader *reader, const char *name)
         say_error_at(reader->name, 0, "%s", strerror(errno));
         return EXIT_SYSTEM;
     }
+    if (is_gzip(file))
+        return refuse_gzip(reader, file);
     reader->pcap = pcap_fopen_offline_with_tstamp_precision(file, PCAP_TSTAMP_PRECISION_NANO, fault);
     if (reader->pcap != NULL)
         return EXIT_DONE;
@@ -70,7 +90,10 @@ static bool take(struct capture_reader *reader, const struct pcap_pkthdr *header
     }
     const struct frame frame = frame_read(reader->link, octets, header->caplen);
     if (frame.version == 0) {
-        counts->not_ip++;
+        if (frame.wrapping == FRAME_PLAIN)
+            counts->not_ip++;
+        else
+            counts->wrapped[frame.wrapping]++;
         return false;
     }
     counts->packets++;
@@ -81,6 +104,18 @@ static bool take(struct capture_reader *reader, const struct pcap_pkthdr *header
     return true;
 }
 
+/* Says what is wrong with the next frame. Where the file has ended within it, all before it is as it should be. */
+static void say_fault(struct capture_reader *reader)
+{
+    FILE *file = pcap_file(reader->pcap);
+    const bool failed = ferror(file) != 0;
+    reader->counts.cut = !failed && feof(file) != 0;
+    if (!reader->counts.cut)
+        reader->code = failed ? EXIT_SYSTEM : EXIT_INPUT;
+    say_error_at(reader->name, 0, "packet %lu: %s%s", reader->counts.frames + 1, pcap_geterr(reader->pcap),
+                 reader->counts.cut ? ": the capture is cut here, and only what comes before is used" : "");
+}
+
 bool capture_next(struct capture_reader *reader, struct capture_packet *packet)
 {
     struct pcap_pkthdr *header = NULL;
@@ -89,11 +124,14 @@ bool capture_next(struct capture_reader *reader, struct capture_packet *packet)
     while ((result = pcap_next_ex(reader->pcap, &header, &octets)) == 1)
         if (take(reader, header, octets, packet))
             return true;
-    if (result != PCAP_ERROR_BREAK) {
-        say_error_at(reader->name, 0, "packet %lu: %s", reader->counts.frames + 1, pcap_geterr(reader->pcap));
-        reader->code = ferror(pcap_file(reader->pcap)) != 0 ? EXIT_SYSTEM : EXIT_INPUT;
-    }
+    if (result != PCAP_ERROR_BREAK)
+        say_fault(reader);
     return false;
+}
+
+int capture_end_code(const struct capture_reader *reader)
+{
+    return reader->counts.cut ? EXIT_INPUT : EXIT_DONE;
 }
 
 void capture_close(struct capture_reader *reader)
@@ -106,6 +144,11 @@ void capture_say_counts(FILE *to, const struct capture_counts *counts)
 {
     fprintf(to, "frames %lu: IP packets %lu, not IP %lu, snapped %lu; padding cut %lu\n", counts->frames, counts->packets, counts->not_ip,
             counts->snapped, counts->padded);
+    for (unsigned int i = 0; i < FRAME_WRAPPINGS; i++)
+        if (counts->wrapped[i] > 0)
+            fprintf(to, "%8lu  %s: may hold IP, but is not looked into\n", counts->wrapped[i], frame_wrapping_name(i));
+    if (counts->cut)
+        fprintf(to, "the capture is cut in frame %lu, which is not counted\n", counts->frames + 1);
 }
 
 /*

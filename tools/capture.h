@@ -8,6 +8,8 @@
 #include <stdio.h>
 #include <time.h>
 
+#include "frame.h"
+
 struct capture_packet {
     unsigned long number;   /* of the frame in its capture, from 1 */
     struct timespec time;
@@ -19,6 +21,8 @@ struct capture_packet {
 /* How many frames of a capture were what. A padded one is a packet too. */
 struct capture_counts {
     unsigned long frames, packets, padded, not_ip, snapped;
+    unsigned long wrapped[FRAME_WRAPPINGS]; /* frames that may hold IP, by what is around it */
+    bool cut; /* the capture ends within the next frame; that was reported, and the frames before it are good */
 };
 
 struct capture_reader {
@@ -32,12 +36,16 @@ struct capture_reader {
 /* Opens a capture; "-" is standard input. 0, or the exit code after the fault was reported. */
 int capture_open(struct capture_reader *reader, const char *name);
 
-/* The next IP packet. Other frames and snapped ones are counted and left out. False: the end, or a fault; the reader's code says which. */
+/* The next IP packet. Other frames and snapped ones are counted and left out. False: the end, also of a capture that is cut there, or a
+   fault; the reader's code says which. */
 bool capture_next(struct capture_reader *reader, struct capture_packet *packet);
+
+/* The exit code of a capture that was read to its end. */
+int capture_end_code(const struct capture_reader *reader);
 
 void capture_close(struct capture_reader *reader);
 
-/* A line about the frames that were read. */
+/* A line about the frames that were read, one for each wrapping among them, and one where the capture is cut. */
 void capture_say_counts(FILE *to, const struct capture_counts *counts);
 
 /* Begins a capture of raw IP packets in an open file; false: the write failed. */

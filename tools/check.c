@@ -4,6 +4,7 @@
 #include <string.h>
 
 #include "commands.h"
+#include "options.h"
 #include "table.h"
 #include "values.h"
 #include "words.h"
@@ -13,10 +14,12 @@ enum { INNER = 1500, INNER_MOST = 65000 /* sent by every sound table: no length 
 struct options {
     const char *table;
     unsigned int inner;
+    bool quiet;
 };
 
 static const struct argp_option option_list[] = {
     {"inner", 'i', "OCTETS", 0, "the length of the inner packet for which MTUs are told, instead of 1500", 0},
+    {"quiet", 'q', NULL, 0, "print nothing but faults; the exit code says whether the table is sound", 0},
     {NULL, 0, NULL, 0, NULL, 0},
 };
 
@@ -27,6 +30,9 @@ static error_t parse(int key, char *argument, struct argp_state *state)
     case 'i':
         if (!number_read(argument, &options->inner) || options->inner > INNER_MOST)
             argp_error(state, "an inner packet has 0 to %d octets, not %s", INNER_MOST, argument);
+        return 0;
+    case 'q':
+        options->quiet = true;
         return 0;
     case ARGP_KEY_ARG:
         if (options->table != NULL)
@@ -46,7 +52,7 @@ static const char help_text[] =
     "octets each entry and rule lengthens or shortens a packet, and the MTU that either side needs. TABLE may be `-'."
     "\vExit codes: 0 sound; 1 not sound; 2 wrong usage; 3 the system failed.";
 
-static const struct argp argp = {option_list, parse, "TABLE", help_text, NULL, NULL, NULL};
+static const struct argp argp = {option_list, parse, "TABLE", help_text, shared_options, NULL, NULL};
 
 /* Octets around the inner packet. The container has one unit, as the gateway writes it; before translation there is no SRH. */
 enum {
@@ -189,21 +195,27 @@ static void print_count(unsigned int count, const char *one, const char *many, c
     printf("%u %s%s", count, count == 1 ? one : many, end);
 }
 
+static void print_sound(const struct options *options, const struct octets *table)
+{
+    const struct table_records records = table_records(table);
+    printf("%s: sound: ", file_shown_name(options->table, "standard input"));
+    print_count(records.entry_count, "entry", "entries", ", ");
+    print_count(records.rule_count, "rule", "rules", ", ");
+    print_count(records.policy_count, "policy", "policies", "\n");
+    if (records.entry_count + records.rule_count != 0)
+        print_lengths(&records, options->inner);
+}
+
 int command_check(int argc, char **argv)
 {
-    struct options options = {NULL, INNER};
+    struct options options = {NULL, INNER, false};
     struct octets table;
     argp_parse(&argp, argc, argv, 0, NULL, &options);
     const int code = table_read_sound(options.table, &table);
     if (code != EXIT_DONE)
         return code;
-    const struct table_records records = table_records(&table);
-    printf("%s: sound: ", file_shown_name(options.table, "standard input"));
-    print_count(records.entry_count, "entry", "entries", ", ");
-    print_count(records.rule_count, "rule", "rules", ", ");
-    print_count(records.policy_count, "policy", "policies", "\n");
-    if (records.entry_count + records.rule_count != 0)
-        print_lengths(&records, options.inner);
+    if (!options.quiet)
+        print_sound(&options, &table);
     free(table.at);
     return EXIT_DONE;
 }

@@ -5,6 +5,7 @@
 #include "build.h"
 #include "commands.h"
 #include "file.h"
+#include "options.h"
 #include "table.h"
 #include "values.h"
 
@@ -47,7 +48,7 @@ static const char help_text[] =
     "rules stand in it in the order of their prefixes. DESCRIPTION and TABLE may be `-'. TABLE may not be DESCRIPTION."
     "\vExit codes: 0 written; 1 the description is bad, or its table not sound; 2 wrong usage; 3 the system failed.";
 
-static const struct argp argp = {option_list, parse, "DESCRIPTION -o TABLE", help_text, NULL, NULL, NULL};
+static const struct argp argp = {option_list, parse, "DESCRIPTION -o TABLE", help_text, shared_options, NULL, NULL};
 
 /* The record of the description that a record of the table was made of. */
 static struct record_place place_of(const struct description *description, const struct text_source *source, const struct built *built,

@@ -7,6 +7,7 @@
 
 #include "commands.h"
 #include "kawsarpa.h"
+#include "options.h"
 #include "say.h"
 #include "words.h"
 
@@ -54,7 +55,7 @@ static const char help_text[] =
     "a table; with --match, why tables do not fit. NUMBER is decimal, or hexadecimal behind 0x."
     "\vExit codes: 0 explained; 1 there is no such number; 2 wrong usage; 3 the system failed.";
 
-static const struct argp argp = {option_list, parse, "NUMBER", help_text, NULL, NULL, NULL};
+static const struct argp argp = {option_list, parse, "NUMBER", help_text, shared_options, NULL, NULL};
 
 static bool read_number(const char *text, unsigned long long *number)
 {

@@ -54,6 +54,13 @@ static bool read_all(int descriptor, size_t most, struct octets *octets)
     }
 }
 
+const char file_gzip_fault[] = "compressed with gzip: unpack it with `zcat', and give `-' for its name";
+
+bool file_is_gzip(int first, int second)
+{
+    return first == 0x1F && second == 0x8B;
+}
+
 int file_read(const char *name, size_t most, struct octets *octets)
 {
     const char *shown = file_shown_name(name, "standard input");
@@ -65,6 +72,9 @@ int file_read(const char *name, size_t most, struct octets *octets)
     else if (octets->count > most) {
         say_error_at(shown, 0, "has more than %zu octets", most);
         code = EXIT_INPUT;
+    } else if (octets->count >= 2 && file_is_gzip(octets->at[0], octets->at[1])) {
+        say_error_at(shown, 0, "%s", file_gzip_fault);
+        code = EXIT_INPUT;
     } else
         code = EXIT_DONE;
     if (descriptor > STDIN_FILENO)
@@ -74,6 +84,16 @@ int file_read(const char *name, size_t most, struct octets *octets)
         *octets = (struct octets){NULL, 0};
     }
     return code;
+}
+
+bool file_standard_twice(const char *const *names, size_t count)
+{
+    size_t found = 0;
+    for (size_t i = 0; i < count; i++)
+        found += is_standard(names[i]);
+    if (found > 1)
+        say_error("standard input can be read once: `-' stands for %zu inputs", found);
+    return found > 1;
 }
 
 static bool fault_said;
@@ -116,6 +136,26 @@ int output_fault(const struct output *output)
     say_error_at(output->name, 0, "%s", strerror(errno));
     fault_said = true;
     return EXIT_SYSTEM;
+}
+
+FILE *output_nowhere(void)
+{
+    static const char name[] = "/dev/null";
+    FILE *nowhere = fopen(name, "w");
+    if (nowhere == NULL) {
+        say_error_at(name, 0, "%s", strerror(errno));
+        exit(EXIT_SYSTEM);
+    }
+    return nowhere;
+}
+
+/* A standard error that was closed from the start is no fault. */
+int output_printed(FILE *stream)
+{
+    if (!ferror(stream) || (stream == stderr && errno != EPIPE))
+        return EXIT_DONE;
+    const struct output printed = {.name = stream == stderr ? "standard error" : "standard output"};
+    return output_fault(&printed);
 }
 
 bool output_close_standard(void)

@@ -18,8 +18,18 @@ void file_hold_standard(void);
 /* How a file is called in messages. */
 const char *file_shown_name(const char *name, const char *standard_stream);
 
-/* Reads all octets of a file. One with more octets than `most` is refused. 0, or the exit code after the fault was reported. */
+/* What is said of a compressed input. */
+extern const char file_gzip_fault[];
+
+/* Whether these are the first octets of what gzip makes (RFC 1952). */
+bool file_is_gzip(int first, int second);
+
+/* Reads all octets of a file. One with more octets than `most`, or a compressed one, is refused. 0, or the exit code after the fault was
+   reported. */
 int file_read(const char *name, size_t most, struct octets *octets);
+
+/* Whether more than one of these inputs is "-"; if so, it is reported: the second would find nothing. */
+bool file_standard_twice(const char *const *names, size_t count);
 
 /* A file that appears under its name only when it is whole, also where a signal ends the program. */
 struct output {
@@ -46,6 +56,12 @@ void output_abandon(struct output *output);
 
 /* Reports a write that failed, by errno; the exit code. */
 int output_fault(const struct output *output);
+
+/* Where what is not wanted can be printed: a stream that keeps nothing. Ends the program where there is none. */
+FILE *output_nowhere(void);
+
+/* Whether what was just printed was written, as not to a closed pipe; the exit code after a fault was reported. */
+int output_printed(FILE *stream);
 
 /* Closes standard output at the end of the program. False: something was not written, and that was reported. */
 bool output_close_standard(void);

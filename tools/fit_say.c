@@ -56,22 +56,13 @@ static const char *near_name(const struct near_values *near)
 
 static void say_entry(FILE *to, const struct stop *stop, unsigned int index)
 {
-    const struct kawsarpa_entry *entry = &table_records(&stop->table).entries[index];
-    char prefix[PREFIX_ROOM];
-    entry_prefix_text(entry, prefix);
-    fprintf(to, "entry %u %s %s", index + 1, word_numbered(behaviours, entry->behaviour)->name, prefix);
+    stop_say_record(to, stop, (struct stop_record){KAWSARPA_RECORD_ENTRY, index});
 }
 
 static void say_near(FILE *to, const struct fit_way *way, const struct fit_record *record)
 {
-    char prefix[PREFIX_ROOM];
     fputs("  ", to);
-    if (record->kind == KAWSARPA_RECORD_ENTRY) {
-        say_entry(to, way->near, record->index);
-        return;
-    }
-    rule_prefix_text(&table_records(&way->near->table).rules[record->index], prefix);
-    fprintf(to, "rule %u H.M.GTP4.D %s", record->index + 1, prefix);
+    stop_say_record(to, way->near, (struct stop_record){record->kind, record->index});
 }
 
 static void say_near_and_far(FILE *to, const struct fit_way *way, const struct fit_record *record)

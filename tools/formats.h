@@ -5,6 +5,9 @@
 /* Without IPv4 options; of GTP-U the part that is always there, and what follows it where a flag is set. */
 enum { IPV4_HEADER = 20, IPV6_HEADER = 40, UDP_HEADER = 8, GTPU_HEADER = 8, GTPU_OPTIONAL = 4 };
 
+/* Where the destination address begins. */
+enum { IPV4_DESTINATION = 16, IPV6_DESTINATION = 24 };
+
 enum { NEXT_UDP = 17, GTPU_PORT = 2152 };
 
 /* GTP-U message types, and the extension that holds the PDU Session container. */

@@ -10,6 +10,7 @@
 #include "capture.h"
 #include "commands.h"
 #include "kawsarpa.h"
+#include "options.h"
 #include "progress.h"
 #include "sequence.h"
 
@@ -79,7 +80,7 @@ static void take_packet(struct run *run, const struct capture_packet *packet)
 static int take_all(struct run *run)
 {
     struct capture_packet packet;
-    struct progress progress = progress_begin();
+    struct progress progress = progress_begin(true);
     while (capture_next(&run->reader, &packet)) {
         take_packet(run, &packet);
         progress_at(&progress, packet.number);
@@ -266,14 +267,14 @@ static const char words[] =
     "Offers the sequence numbers of a capture's G-PDUs in its order, and prints for each TEID: the first and the highest number; the "
     "packets seen, which are new, repeated or late; the numbers lost, also in percent of new + lost. Under it stands what was not counted, "
     "and why. IN.pcap is a pcap or pcapng capture of Ethernet, Linux cooked or raw IP, or `-'. Frames that are not IP or are snapped are "
-    "left out and counted; padding of the link is cut off."
+    "left out and counted; padding of the link is cut off. Of a capture that is cut at its end the packets before the cut are counted."
     "\vA row is for one TEID, whatever the addresses are. Receivers choose TEIDs, so a capture of both directions or of several stations "
     "will do as long as no two receivers use the same. TEIDs that are sent to more than one address are named; for these take one address "
     "alone, as with `tcpdump -r IN.pcap -w ONE.pcap dst host ADDRESS'.\n"
     "\n"
-    "Exit codes: 0 printed, whatever was lost; 1 the capture is bad; 2 wrong usage; 3 the system failed.";
+    "Exit codes: 0 printed, whatever was lost; 1 the capture is bad or cut; 2 wrong usage; 3 the system failed.";
 
-static const struct argp argp = {option_list, parse, "IN.pcap", words, NULL, NULL, NULL};
+static const struct argp argp = {option_list, parse, "IN.pcap", words, shared_options, NULL, NULL};
 
 int command_loss(int argc, char **argv)
 {
@@ -290,5 +291,5 @@ int command_loss(int argc, char **argv)
     const struct report report = make_report(&run);
     (arguments.csv ? print_csv : print_table)(&report);
     say_account(arguments.csv ? stderr : stdout, &run, &report);
-    return EXIT_DONE;
+    return capture_end_code(&run.reader);
 }

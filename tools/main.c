@@ -9,6 +9,7 @@
 #include "commands.h"
 #include "file.h"
 #include "kawsarpa.h"
+#include "options.h"
 
 struct command {
     const char *name;
@@ -85,7 +86,7 @@ static const char help_text[] =
     "Exit codes: 0 done; 1 the input is bad (check: the table is not sound; match: tables do not fit; trip: a packet did not "
     "arrive, or arrived changed); 2 wrong usage; 3 the system failed: cannot open, read or write.";
 
-static const struct argp argp = {NULL, parse, "COMMAND [ARGUMENT...]", help_text, NULL, help, NULL};
+static const struct argp argp = {NULL, parse, "COMMAND [ARGUMENT...]", help_text, shared_options, help, NULL};
 
 /* TOOLCHAIN is what rt.version says; the Makefile gives it. */
 static void say_version(FILE *to, struct argp_state *state)

@@ -2,10 +2,12 @@
 #include <argp.h>
 #include <stdbool.h>
 #include <stdio.h>
+#include <string.h>
 
 #include "commands.h"
 #include "fit.h"
 #include "kawsarpa.h"
+#include "options.h"
 #include "stop.h"
 
 /* As many as the waypoints that two tables can name. */
@@ -17,6 +19,7 @@ struct arguments {
     size_t via_count;
     const char *far;
     bool both;
+    bool quiet;
 };
 
 /* The tables that are loaded: near, far, then those of the waypoints. */
@@ -43,51 +46,58 @@ static int add_tables(struct tables *tables, const struct arguments *arguments)
     return code;
 }
 
-static struct fit match_way(const struct fit_way *way)
+static struct fit match_way(FILE *to, const struct fit_way *way)
 {
     const struct fit fit = fit_judge(way);
-    printf("from %s to %s:\n", way->near->name, way->far->name);
+    fprintf(to, "from %s to %s:\n", way->near->name, way->far->name);
     for (unsigned int i = 0; i < fit.record_count; i++)
-        fit_say_record(stdout, way, &fit.records[i]);
+        fit_say_record(to, way, &fit.records[i]);
     if (fit.record_count == 0)
-        printf("  nothing to check: %s has no End.M.GTP6.D.Di entry and no rule\n", way->near->name);
+        fprintf(to, "  nothing to check: %s has no End.M.GTP6.D.Di entry and no rule\n", way->near->name);
     return fit;
 }
 
-static void say_way(const struct fit *fit, const char *from, const char *to)
+static void say_way(FILE *to, const struct fit *fit, const struct stop *near, const struct stop *far)
 {
-    printf("%u of %u from %s to %s", fit->fitting, fit->asked, from, to);
+    fprintf(to, "%u of %u from %s to %s", fit->fitting, fit->asked, near->name, far->name);
 }
 
 /* The last line; the exit code that it makes. */
-static int say_summary(const struct fit *there, const struct fit *back, const struct fit_way *way)
+static int say_summary(FILE *to, const struct fit *there, const struct fit *back, const struct fit_way *way)
 {
     const unsigned int fitting = there->fitting + (back == NULL ? 0 : back->fitting);
     const unsigned int asked = there->asked + (back == NULL ? 0 : back->asked);
     const unsigned int waypoints_only = there->waypoints_only + (back == NULL ? 0 : back->waypoints_only);
-    printf("%u of %u fit", fitting, asked);
+    fprintf(to, "%u of %u fit", fitting, asked);
     if (back != NULL) {
-        fputs(": ", stdout);
-        say_way(there, way->near->name, way->far->name);
-        fputs(", ", stdout);
-        say_way(back, way->far->name, way->near->name);
+        fputs(": ", to);
+        say_way(to, there, way->near, way->far);
+        fputs(", ", to);
+        say_way(to, back, way->far, way->near);
     }
     if (waypoints_only != 0)
-        printf("; of %u End.M.GTP6.D %s only the waypoints are checked", waypoints_only, waypoints_only == 1 ? "entry" : "entries");
-    putchar('\n');
+        fprintf(to, "; of %u End.M.GTP6.D %s only the waypoints are checked", waypoints_only, waypoints_only == 1 ? "entry" : "entries");
+    fputc('\n', to);
     return fitting == asked ? EXIT_DONE : EXIT_INPUT;
 }
 
-static int match(const struct tables *tables, bool both)
+static int match(FILE *to, const struct tables *tables, bool both)
 {
     const struct stop *vias = &tables->stops[2];
     const struct fit_way way = {&tables->stops[0], vias, tables->count - 2, &tables->stops[1], false};
     const struct fit_way way_back = {way.far, vias, way.via_count, way.near, false};
-    const struct fit there = match_way(&way);
+    const struct fit there = match_way(to, &way);
     if (!both)
-        return say_summary(&there, NULL, &way);
-    const struct fit back = match_way(&way_back);
-    return say_summary(&there, &back, &way);
+        return say_summary(to, &there, NULL, &way);
+    const struct fit back = match_way(to, &way_back);
+    return say_summary(to, &there, &back, &way);
+}
+
+static bool input_taken(const struct arguments *arguments)
+{
+    const char *inputs[2 + VIAS_MAX] = {arguments->near, arguments->far};
+    memcpy(inputs + 2, arguments->vias, arguments->via_count * sizeof inputs[0]);
+    return file_standard_twice(inputs, 2 + arguments->via_count);
 }
 
 static void set_once(struct argp_state *state, const char **name, const char *value, const char *option)
@@ -123,6 +133,9 @@ static error_t parse(int key, char *value, struct argp_state *state)
     case OPTION_BOTH:
         arguments->both = true;
         return 0;
+    case 'q':
+        arguments->quiet = true;
+        return 0;
     case ARGP_KEY_ARG:
         argp_error(state, "tables stand behind --near, --via and --far: %s", value);
         return 0;
@@ -140,6 +153,7 @@ static const struct argp_option option_list[] = {
     {"via", OPTION_VIA, "TABLE", 0, "the table of a waypoint; given once for each, in any order", 0},
     {"far", OPTION_FAR, "TABLE", 0, "the table of the gateway where packets come out", 0},
     {"both", OPTION_BOTH, NULL, 0, "check the way back as well, from the far gateway to the near one", 0},
+    {"quiet", 'q', NULL, 0, "print nothing but faults; the exit code says whether all fit", 0},
     {NULL, 0, NULL, 0, NULL, 0},
 };
 
@@ -153,16 +167,18 @@ static const char words[] =
     "\n"
     "Exit codes: 0 all fit, or there is nothing to check; 1 one does not fit, or a table is not sound; 2 wrong usage; 3 the system failed.";
 
-static const struct argp argp = {option_list, parse, "--near TABLE [--via TABLE]... --far TABLE", words, NULL, NULL, NULL};
+static const struct argp argp = {option_list, parse, "--near TABLE [--via TABLE]... --far TABLE", words, shared_options, NULL, NULL};
 
 int command_match(int argc, char **argv)
 {
     struct arguments arguments = {.via_count = 0};
     struct tables tables = {.count = 0};
     argp_parse(&argp, argc, argv, 0, NULL, &arguments);
+    if (input_taken(&arguments))
+        return EXIT_USAGE;
     int code = add_tables(&tables, &arguments);
     if (code == EXIT_DONE)
-        code = match(&tables, arguments.both);
+        code = match(arguments.quiet ? output_nowhere() : stdout, &tables, arguments.both);
     for (size_t i = 0; i < tables.count; i++)
         stop_free(&tables.stops[i]);
     return code;

@@ -19,20 +19,19 @@ static bool second_between(struct timespec from, struct timespec to)
     return seconds > 1 || (seconds == 1 && to.tv_nsec >= from.tv_nsec);
 }
 
-struct progress progress_begin(void)
+struct progress progress_begin(bool wanted)
 {
-    return (struct progress){now(), false};
+    return (struct progress){now(), wanted && isatty(STDERR_FILENO), false};
 }
 
 void progress_at(struct progress *progress, unsigned long packets)
 {
-    if (packets % PACKETS_A_LOOK != 0)
+    if (!progress->wanted || packets % PACKETS_A_LOOK != 0)
         return;
     const struct timespec time = now();
     if (!second_between(progress->said, time))
         return;
-    /* on a terminal each line replaces the one before it */
-    fprintf(stderr, isatty(STDERR_FILENO) ? "\r%lu packets ..." : "%lu packets ...\n", packets);
+    fprintf(stderr, "\r%lu packets ...", packets); /* each replaces the one before it */
     fflush(stderr);
     progress->said = time;
     progress->shown = true;
@@ -40,6 +39,6 @@ void progress_at(struct progress *progress, unsigned long packets)
 
 void progress_end(const struct progress *progress)
 {
-    if (progress->shown && isatty(STDERR_FILENO))
+    if (progress->shown)
         fputs("\r\033[K", stderr);
 }

@@ -1,4 +1,4 @@
-/* A line on standard error about how far a long run has come. */
+/* A line on the terminal, where standard error is one, about how far a long run has come. */
 #ifndef PROGRESS_H
 #define PROGRESS_H
 
@@ -7,10 +7,12 @@
 
 struct progress {
     struct timespec said; /* when the last line was, or the start */
+    bool wanted;
     bool shown;
 };
 
-struct progress progress_begin(void);
+/* Not wanted: nothing is said at all. */
+struct progress progress_begin(bool wanted);
 
 /* Says the count if a second has gone by since it was last said. */
 void progress_at(struct progress *progress, unsigned long packets);

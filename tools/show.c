@@ -7,6 +7,7 @@
 
 #include "build.h"
 #include "commands.h"
+#include "options.h"
 #include "say.h"
 #include "table.h"
 #include "words.h"
@@ -33,7 +34,7 @@ static const char help_text[] =
     "policy-1, entry-1, rule-1 and so on. `kawsarpa compile' makes the same octets of it, if it made the table. TABLE may be `-'."
     "\vExit codes: 0 printed; 1 the table is not sound; 2 wrong usage; 3 the system failed.";
 
-static const struct argp argp = {NULL, parse, "TABLE", help_text, NULL, NULL, NULL};
+static const struct argp argp = {NULL, parse, "TABLE", help_text, shared_options, NULL, NULL};
 
 __attribute__((format(printf, 1, 2))) static char *text(const char *format, ...)
 {

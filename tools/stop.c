@@ -1,10 +1,12 @@
 #include "stop.h"
 
 #include <stdlib.h>
+#include <string.h>
 
 #include "commands.h"
 #include "formats.h"
 #include "table.h"
+#include "words.h"
 
 uint64_t stop_call(const struct stop *stop, unsigned int version, const uint8_t *packet, size_t length, uint8_t out[STOP_ROOM])
 {
@@ -12,15 +14,89 @@ uint64_t stop_call(const struct stop *stop, unsigned int version, const uint8_t 
                         : kawsarpa_call_ipv6(packet, length, stop->table.at, stop->table.count, out, STOP_ROOM);
 }
 
+/* What the library says of an IPv6 destination: 0 where an End entry is its longest match; it names one of another behaviour. */
+static uint64_t ask_waypoint(const struct stop *stop, const uint8_t destination[16])
+{
+    return kawsarpa_call_match_waypoint(stop->table.at, stop->table.count, destination, 16);
+}
+
 const struct kawsarpa_entry *stop_entry(const struct stop *stop, unsigned int version, const uint8_t *packet, size_t length)
 {
     if (version != 6 || length < IPV6_HEADER)
         return NULL;
     /* the library names the longest match where that is no waypoint's */
-    const uint64_t mismatch = kawsarpa_call_match_waypoint(stop->table.at, stop->table.count, packet + 24, 16);
+    const uint64_t mismatch = ask_waypoint(stop, packet + IPV6_DESTINATION);
     if (kawsarpa_mismatch_condition(mismatch) != KAWSARPA_MISMATCH_WAYPOINT_KIND)
         return NULL;
     return &table_records(&stop->table).entries[kawsarpa_mismatch_index(mismatch)];
+}
+
+static bool covers(const uint8_t *prefix, unsigned int length, const uint8_t *address)
+{
+    const unsigned int whole = length / 8;
+    const unsigned int rest = length % 8;
+    return memcmp(prefix, address, whole) == 0 && (rest == 0 || (prefix[whole] ^ address[whole]) >> (8 - rest) == 0);
+}
+
+/* The End entry, where the library has said that it is one; among End entries it is then the longest that covers the destination. */
+static unsigned int longest_end(const struct table_records *records, const uint8_t *destination)
+{
+    unsigned int found = records->entry_count;
+    for (unsigned int i = 0; i < records->entry_count; i++) {
+        const struct kawsarpa_entry *entry = &records->entries[i];
+        if (entry->behaviour == KAWSARPA_BEHAVIOUR_END && covers(entry->prefix, entry->prefix_length, destination) &&
+            (found == records->entry_count || entry->prefix_length > records->entries[found].prefix_length))
+            found = i;
+    }
+    return found;
+}
+
+static bool find_entry(const struct stop *stop, const uint8_t *destination, struct stop_record *record)
+{
+    const uint64_t mismatch = ask_waypoint(stop, destination);
+    const struct table_records records = table_records(&stop->table);
+    unsigned int index = records.entry_count;
+    if (mismatch == 0)
+        index = longest_end(&records, destination);
+    else if (kawsarpa_mismatch_condition(mismatch) == KAWSARPA_MISMATCH_WAYPOINT_KIND)
+        index = kawsarpa_mismatch_index(mismatch);
+    *record = (struct stop_record){KAWSARPA_RECORD_ENTRY, index};
+    return index < records.entry_count;
+}
+
+/* The library has no call that names the rule of a destination. */
+static bool find_rule(const struct stop *stop, const uint8_t *destination, struct stop_record *record)
+{
+    const struct table_records records = table_records(&stop->table);
+    unsigned int found = records.rule_count;
+    for (unsigned int i = 0; i < records.rule_count; i++) {
+        const struct kawsarpa_rule *rule = &records.rules[i];
+        if (covers(rule->prefix, rule->prefix_length, destination) &&
+            (found == records.rule_count || rule->prefix_length > records.rules[found].prefix_length))
+            found = i;
+    }
+    *record = (struct stop_record){KAWSARPA_RECORD_RULE, found};
+    return found < records.rule_count;
+}
+
+bool stop_find(const struct stop *stop, unsigned int version, const uint8_t *packet, size_t length, struct stop_record *record)
+{
+    if (length < (version == 4 ? IPV4_HEADER : IPV6_HEADER))
+        return false;
+    return version == 4 ? find_rule(stop, packet + IPV4_DESTINATION, record) : find_entry(stop, packet + IPV6_DESTINATION, record);
+}
+
+void stop_say_record(FILE *to, const struct stop *stop, struct stop_record record)
+{
+    const struct table_records records = table_records(&stop->table);
+    const char *behaviour = "H.M.GTP4.D";
+    char prefix[PREFIX_ROOM];
+    if (record.kind == KAWSARPA_RECORD_ENTRY) {
+        behaviour = word_numbered(behaviours, records.entries[record.index].behaviour)->name;
+        entry_prefix_text(&records.entries[record.index], prefix);
+    } else
+        rule_prefix_text(&records.rules[record.index], prefix);
+    fprintf(to, "%s %u %s %s", record_name(record.kind), record.index + 1, behaviour, prefix);
 }
 
 int stop_load(struct stop *stop, const char *name)

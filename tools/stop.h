@@ -10,8 +10,8 @@
 #include "file.h"
 #include "kawsarpa.h"
 
-/* Room for every packet that the library can send: 40 octets and a payload length of 65,535. */
-enum { STOP_ROOM = 40 + 65535 };
+/* Room for every packet that the library can send. */
+enum { STOP_ROOM = KAWSARPA_OUT_MAX };
 
 struct stop {
     const char *name; /* of its table, for messages */
@@ -28,6 +28,18 @@ uint64_t stop_call(const struct stop *stop, unsigned int version, const uint8_t 
 
 /* The entry that the library goes by for a packet of this IP version. NULL: a waypoint's, a rule, or none. */
 const struct kawsarpa_entry *stop_entry(const struct stop *stop, unsigned int version, const uint8_t *packet, size_t length);
+
+/* The entry or rule that a packet of this IP version is led to by its destination. */
+struct stop_record {
+    unsigned int kind; /* KAWSARPA_RECORD_ENTRY or KAWSARPA_RECORD_RULE */
+    unsigned int index;
+};
+
+/* False: none, or there is no whole IP header. */
+bool stop_find(const struct stop *stop, unsigned int version, const uint8_t *packet, size_t length, struct stop_record *record);
+
+/* "entry 1 End 2001:db8:1::/48", "rule 1 H.M.GTP4.D 192.0.2.0/24". */
+void stop_say_record(FILE *to, const struct stop *stop, struct stop_record record);
 
 /* An answer in words, with its number and what an ICMPv6 message would say, where it is a refusal. */
 void stop_say_answer(FILE *to, uint64_t answer);

@@ -26,6 +26,21 @@ struct table_records table_records(const struct octets *table)
     return records;
 }
 
+/* Text with the key that every description has, where a table has its format. */
+static bool is_description(const struct octets *octets)
+{
+    static const char key[] = "format";
+    return octets->count > 0 && octets->at[0] != KAWSARPA_FORMAT && memmem(octets->at, octets->count, key, strlen(key)) != NULL;
+}
+
+static void say_unsound(const char *name, const struct octets *table, uint64_t fault)
+{
+    if (is_description(table))
+        say_error_at(file_shown_name(name, "standard input"), 0, "a description: compile it first, with `kawsarpa compile'");
+    else
+        table_say_fault(name, table, fault);
+}
+
 int table_read_sound(const char *name, struct octets *table)
 {
     const int code = file_read(name, TABLE_READ_MOST, table);
@@ -34,7 +49,7 @@ int table_read_sound(const char *name, struct octets *table)
     const uint64_t fault = kawsarpa_table_fault(table->at, table->count);
     if (fault == 0)
         return EXIT_DONE;
-    table_say_fault(name, table, fault);
+    say_unsound(name, table, fault);
     free(table->at);
     return EXIT_INPUT;
 }

@@ -10,6 +10,7 @@
 #include "describe.h"
 #include "file.h"
 #include "kawsarpa.h"
+#include "options.h"
 #include "progress.h"
 #include "stop.h"
 
@@ -18,6 +19,7 @@ struct arguments {
     const char *in;
     const char *out;
     bool trace;
+    bool quiet;
 };
 
 struct run {
@@ -26,17 +28,34 @@ struct run {
     struct output out;
     FILE *account; /* where the trace and the summary go */
     bool trace;
+    bool quiet;
     unsigned long answers[UINT8_MAX + 1];
     size_t longest_in;
     size_t longest_sent;
 };
 
-static void say_trace(const struct run *run, const struct capture_packet *packet, uint64_t answer)
+/* Whether the answer tells that an entry or rule was found: a refusal with a smaller number comes before that. */
+static bool found_record(unsigned int number)
 {
+    return number == KAWSARPA_ANSWER_SENT || number > KAWSARPA_ANSWER_NO_MATCH;
+}
+
+static void say_trace(const struct run *run, const struct capture_packet *packet, uint64_t answer, const uint8_t *sent)
+{
+    const unsigned int number = kawsarpa_answer_number(answer);
+    struct stop_record record;
     fprintf(run->account, "packet %lu: ", packet->number);
-    stop_say_answer(run->account, answer);
-    fputs(": ", run->account);
     packet_describe(run->account, packet->octets, packet->length);
+    fputs("\n  ", run->account);
+    if (found_record(number) && stop_find(&run->stop, packet->version, packet->octets, packet->length, &record)) {
+        stop_say_record(run->account, &run->stop, record);
+        fputs(": ", run->account);
+    }
+    stop_say_answer(run->account, answer);
+    if (number == KAWSARPA_ANSWER_SENT) {
+        fputs(": ", run->account);
+        packet_describe(run->account, sent, kawsarpa_answer_length(answer));
+    }
     fputc('\n', run->account);
 }
 
@@ -45,16 +64,19 @@ static size_t larger(size_t a, size_t b)
     return a > b ? a : b;
 }
 
-/* Translates one packet; the exit code, not 0 where what was sent could not be written. */
+/* Translates one packet; the exit code, not 0 where what was sent, or its trace, could not be written. */
 static int translate_packet(struct run *run, const struct capture_packet *packet)
 {
     static uint8_t sent[STOP_ROOM];
     const uint64_t answer = stop_call(&run->stop, packet->version, packet->octets, packet->length, sent);
+    int code = EXIT_DONE;
     run->answers[kawsarpa_answer_number(answer)]++;
-    if (run->trace)
-        say_trace(run, packet, answer);
-    if (kawsarpa_answer_number(answer) != KAWSARPA_ANSWER_SENT)
-        return EXIT_DONE;
+    if (run->trace) {
+        say_trace(run, packet, answer, sent);
+        code = output_printed(run->account);
+    }
+    if (code != EXIT_DONE || kawsarpa_answer_number(answer) != KAWSARPA_ANSWER_SENT)
+        return code;
     run->longest_in = larger(run->longest_in, packet->length);
     run->longest_sent = larger(run->longest_sent, kawsarpa_answer_length(answer));
     const bool added = capture_add(run->out.file, packet->time, sent, kawsarpa_answer_length(answer));
@@ -65,7 +87,7 @@ static int translate_packet(struct run *run, const struct capture_packet *packet
 static int translate_all(struct run *run)
 {
     struct capture_packet packet;
-    struct progress progress = progress_begin();
+    struct progress progress = progress_begin(!run->quiet);
     int code = capture_begin(run->out.file) ? EXIT_DONE : output_fault(&run->out);
     while (code == EXIT_DONE && capture_next(&run->reader, &packet)) {
         code = translate_packet(run, &packet);
@@ -96,9 +118,10 @@ static int translate_into(struct run *run, const char *out)
         return code;
     }
     code = output_commit(&run->out);
-    if (code == EXIT_DONE)
-        say_summary(run);
-    return code;
+    if (code != EXIT_DONE)
+        return code;
+    say_summary(run);
+    return capture_end_code(&run->reader);
 }
 
 static int translate_capture(struct run *run, const struct arguments *arguments)
@@ -131,6 +154,9 @@ static error_t parse(int key, char *value, struct argp_state *state)
     case OPTION_TRACE:
         arguments->trace = true;
         return 0;
+    case 'q':
+        arguments->quiet = true;
+        return 0;
     case ARGP_KEY_ARG:
         if (state->arg_num >= 2)
             argp_error(state, "two captures are enough: %s", value);
@@ -139,6 +165,8 @@ static error_t parse(int key, char *value, struct argp_state *state)
     case ARGP_KEY_END:
         if (arguments->table == NULL || arguments->out == NULL)
             argp_error(state, "--table, IN.pcap and OUT.pcap are needed");
+        if (arguments->trace && arguments->quiet)
+            argp_error(state, "--trace and --quiet cannot be had together");
         return 0;
     default:
         return ARGP_ERR_UNKNOWN;
@@ -147,7 +175,8 @@ static error_t parse(int key, char *value, struct argp_state *state)
 
 static const struct argp_option option_list[] = {
     {"table", OPTION_TABLE, "TABLE", 0, "the table to translate by", 0},
-    {"trace", OPTION_TRACE, NULL, 0, "print a line for each packet", 0},
+    {"trace", OPTION_TRACE, NULL, 0, "print of each packet what it is, the entry or rule that matched, the answer, and what leaves", 0},
+    {"quiet", 'q', NULL, 0, "print nothing but faults", 0},
     {NULL, 0, NULL, 0, NULL, 0},
 };
 
@@ -155,17 +184,20 @@ static const char words[] =
     "Makes the call of its IP version for each packet of a capture, and counts the answers. IN.pcap is a pcap or pcapng capture of "
     "Ethernet, Linux cooked or raw IP. OUT.pcap gets what is sent, as raw IP with the times of the packets that went in. Frames that are "
     "not IP or are snapped are left out and counted; padding of the link is cut off. TABLE, IN.pcap and OUT.pcap may be `-'; if OUT.pcap "
-    "is, all else is printed on standard error. OUT.pcap may not be a file that is read."
-    "\vExit codes: 0 written; 1 the capture is bad, or the table not sound; 2 wrong usage; 3 the system failed.";
+    "is, all else is printed on standard error. OUT.pcap may not be a file that is read. Of a capture that is cut at its end the packets "
+    "before the cut are used."
+    "\vExit codes: 0 written; 1 the capture is bad or cut, or the table not sound; 2 wrong usage; 3 the system failed.";
 
-static const struct argp argp = {option_list, parse, "--table TABLE IN.pcap OUT.pcap", words, NULL, NULL, NULL};
+static const struct argp argp = {option_list, parse, "--table TABLE IN.pcap OUT.pcap", words, shared_options, NULL, NULL};
 
 int command_translate(int argc, char **argv)
 {
-    struct arguments arguments = {NULL, NULL, NULL, false};
+    struct arguments arguments = {.table = NULL};
     argp_parse(&argp, argc, argv, 0, NULL, &arguments);
-    struct run run = {.account = strcmp(arguments.out, "-") == 0 ? stderr : stdout, .trace = arguments.trace};
-    if (output_taken(&arguments, run.account))
+    struct run run = {.trace = arguments.trace, .quiet = arguments.quiet};
+    run.account = run.quiet ? output_nowhere() : strcmp(arguments.out, "-") == 0 ? stderr : stdout;
+    const char *const inputs[] = {arguments.table, arguments.in};
+    if (file_standard_twice(inputs, 2) || output_taken(&arguments, run.account))
         return EXIT_USAGE;
     int code = stop_load(&run.stop, arguments.table);
     if (code != EXIT_DONE)

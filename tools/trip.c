@@ -11,6 +11,7 @@
 #include "file.h"
 #include "fit.h"
 #include "kawsarpa.h"
+#include "options.h"
 #include "progress.h"
 #include "promise.h"
 #include "stop.h"
@@ -25,6 +26,7 @@ struct arguments {
     const char *far;
     const char *in;
     const char *out; /* NULL: what comes out is not kept */
+    bool quiet;
 };
 
 struct trip {
@@ -33,6 +35,7 @@ struct trip {
     struct capture_reader reader;
     struct output out;
     FILE *account;
+    bool quiet;
     unsigned long arrived;
     unsigned long unchanged; /* of those, what came out as it has to */
 };
@@ -152,7 +155,7 @@ static bool judge(FILE *to, const struct capture_packet *packet, const struct ar
     return same;
 }
 
-/* One packet's trip; the exit code, not 0 where what came out could not be written. */
+/* One packet's trip; the exit code, not 0 where what came out, or what is told of it, could not be written. */
 static int send_packet(struct trip *trip, const struct capture_packet *packet)
 {
     fprintf(trip->account, "packet %lu: ", packet->number);
@@ -160,10 +163,13 @@ static int send_packet(struct trip *trip, const struct capture_packet *packet)
     fputc('\n', trip->account);
     const struct arrival arrival = walk(trip, packet);
     const struct parcel *out = &arrival.out;
-    if (out->octets == NULL)
-        return EXIT_DONE;
-    trip->arrived++;
-    trip->unchanged += judge(trip->account, packet, &arrival);
+    if (out->octets != NULL) {
+        trip->arrived++;
+        trip->unchanged += judge(trip->account, packet, &arrival);
+    }
+    const int code = output_printed(trip->account);
+    if (code != EXIT_DONE || out->octets == NULL)
+        return code;
     const bool added = trip->out.file == NULL || capture_add(trip->out.file, packet->time, out->octets, out->length);
     return added ? EXIT_DONE : output_fault(&trip->out);
 }
@@ -172,7 +178,7 @@ static int send_packet(struct trip *trip, const struct capture_packet *packet)
 static int send_all(struct trip *trip)
 {
     struct capture_packet packet;
-    struct progress progress = progress_begin();
+    struct progress progress = progress_begin(!trip->quiet);
     const bool begun = trip->out.file == NULL || capture_begin(trip->out.file);
     int code = begun ? EXIT_DONE : output_fault(&trip->out);
     while (code == EXIT_DONE && capture_next(&trip->reader, &packet)) {
@@ -190,7 +196,7 @@ static int say_summary(const struct trip *trip)
     capture_say_counts(trip->account, &trip->reader.counts);
     fprintf(trip->account, "%lu of %lu packets arrived, %lu of them with the destination, TEID, QFI, R, traffic class and inner octets "
             "that went in\n", trip->arrived, packets, trip->unchanged);
-    return trip->unchanged == packets ? EXIT_DONE : EXIT_INPUT;
+    return trip->unchanged == packets ? capture_end_code(&trip->reader) : EXIT_INPUT;
 }
 
 static int trip_into(struct trip *trip, const char *out)
@@ -258,6 +264,13 @@ static bool output_taken(const struct arguments *arguments, FILE *account)
     return taken || output_is_stream(arguments->out, account);
 }
 
+static bool input_taken(const struct arguments *arguments)
+{
+    const char *inputs[STOPS_MAX + 1] = {arguments->near, arguments->far, arguments->in};
+    memcpy(inputs + 3, arguments->via, arguments->via_count * sizeof inputs[0]);
+    return file_standard_twice(inputs, 3 + arguments->via_count);
+}
+
 static void add_via(struct argp_state *state, struct arguments *arguments, const char *value)
 {
     if (arguments->via_count == KAWSARPA_WAYPOINTS_MAX)
@@ -281,6 +294,9 @@ static error_t parse(int key, char *value, struct argp_state *state)
     case OPTION_FAR:
         arguments->far = value;
         return 0;
+    case 'q':
+        arguments->quiet = true;
+        return 0;
     case 'o':
         arguments->out = value;
         return 0;
@@ -303,13 +319,15 @@ static const struct argp_option option_list[] = {
     {"via", OPTION_VIA, "TABLE", 0, "the table of a waypoint; given once for each, in order of travel", 0},
     {"far", OPTION_FAR, "TABLE", 0, "the table of the gateway where packets come out", 0},
     {"output", 'o', "OUT.pcap", 0, "keep what comes out, as raw IP with the times of the packets that went in", 0},
+    {"quiet", 'q', NULL, 0, "print nothing but faults; the exit code says whether every packet arrived", 0},
     {NULL, 0, NULL, 0, NULL, 0},
 };
 
 static const char words[] =
     "Sends each IP packet of a capture through all stops of a trip, prints what leaves each, and compares what comes out with what went "
     "in. IN.pcap is a pcap or pcapng capture of Ethernet, Linux cooked or raw IP. A TABLE, IN.pcap and OUT.pcap may be `-'; if "
-    "OUT.pcap is, all else is printed on standard error. OUT.pcap may not be a file that is read."
+    "OUT.pcap is, all else is printed on standard error. OUT.pcap may not be a file that is read. Of a capture that is cut at its end the "
+    "packets before the cut are used."
     "\vBefore the packets it says how many entries and rules of the near table fit the other tables, and why the rest does not, as "
     "`kawsarpa match' does; but in order: waypoint n has to fit the n-th --via table, with as many of one as of the other. The trip is "
     "made all the same, and its exit code is that of the packets alone.\n"
@@ -320,18 +338,21 @@ static const char words[] =
     "always written. One that is not so has arrived changed, and its line says in what: fields, and octets of a header, counted from 0. Of "
     "other packets the parts that the line names are compared, and the direction.\n"
     "\n"
-    "Exit codes: 0 every packet arrived with what went in; 1 one did not arrive, or arrived changed, the capture is bad, or a table not "
-    "sound; 2 wrong usage; 3 the system failed.";
+    "Exit codes: 0 every packet arrived with what went in; 1 one did not arrive, or arrived changed, the capture is bad or cut, or a table "
+    "not sound; 2 wrong usage; 3 the system failed.";
 
-static const struct argp argp = {option_list, parse, "--near TABLE [--via TABLE]... --far TABLE IN.pcap", words, NULL, NULL, NULL};
+static const struct argp argp = {
+    option_list, parse, "--near TABLE [--via TABLE]... --far TABLE IN.pcap", words, shared_options, NULL, NULL,
+};
 
 int command_trip(int argc, char **argv)
 {
     struct arguments arguments = {0};
     argp_parse(&argp, argc, argv, 0, NULL, &arguments);
     const bool to_standard_output = arguments.out != NULL && strcmp(arguments.out, "-") == 0;
-    struct trip trip = {.account = to_standard_output ? stderr : stdout};
-    if (arguments.out != NULL && output_taken(&arguments, trip.account))
+    struct trip trip = {.quiet = arguments.quiet};
+    trip.account = trip.quiet ? output_nowhere() : to_standard_output ? stderr : stdout;
+    if (input_taken(&arguments) || (arguments.out != NULL && output_taken(&arguments, trip.account)))
         return EXIT_USAGE;
     int code = add_stops(&trip, &arguments);
     if (code == EXIT_DONE)

@@ -11,20 +11,33 @@
 
 enum { NAME_MOST = 63, REASON_ROOM = 512 };
 
-bool value_refused(const struct record_place *place, const char *field, const char *format, ...)
+static void say(const struct record_place *place, const char *field, const char *degree, const char *format, va_list arguments)
 {
     const struct text_source *source = place->source;
     const unsigned long line = source->marks == NULL ? 0 : marks_line(source->marks, place->list, place->index, field);
     char reason[REASON_ROOM];
+    vsnprintf(reason, sizeof reason, format, arguments);
+    if (place->kind == NULL)
+        say_error_at(source->file, line, "%s%s", degree, reason);
+    else
+        say_error_at(source->file, line, "%s \"%.63s\": %s%s", place->kind, place->name, degree, reason);
+}
+
+bool value_refused(const struct record_place *place, const char *field, const char *format, ...)
+{
     va_list arguments;
     va_start(arguments, format);
-    vsnprintf(reason, sizeof reason, format, arguments);
+    say(place, field, "", format, arguments);
     va_end(arguments);
-    if (place->kind == NULL)
-        say_error_at(source->file, line, "%s", reason);
-    else
-        say_error_at(source->file, line, "%s \"%.63s\": %s", place->kind, place->name, reason);
     return false;
+}
+
+void value_warned(const struct record_place *place, const char *field, const char *format, ...)
+{
+    va_list arguments;
+    va_start(arguments, format);
+    say(place, field, "warning: ", format, arguments);
+    va_end(arguments);
 }
 
 bool number_read(const char *text, unsigned int *number)

@@ -26,6 +26,9 @@ bool number_read(const char *text, unsigned int *number);
 /* Says what is wrong with a field of a record. Always false. */
 __attribute__((format(printf, 3, 4))) bool value_refused(const struct record_place *place, const char *field, const char *format, ...);
 
+/* Says what is odd about a field that is taken. */
+__attribute__((format(printf, 3, 4))) void value_warned(const struct record_place *place, const char *field, const char *format, ...);
+
 /* Each reads the text of a field. False: it was refused. */
 bool value_number(const struct record_place *place, const char *field, const char *text, unsigned int low, unsigned int high,
                   unsigned int *number);

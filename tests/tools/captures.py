@@ -135,6 +135,7 @@ def main() -> None:
         write(name, pcap(RAW, frames, magic=NANOSECONDS))
 
     sent("sent.expected", [sent6, sent4, sent_last])
+    sent("sent-cut.expected", [sent6, sent4])
     sent("sent-ipv4.expected", [sent4])
     sent("sent-ipv6.expected", [sent6, sent_last])
     sent("none.expected", [])
@@ -148,11 +149,23 @@ def main() -> None:
     write("empty.pcap", pcap(ETHERNET, []))
     write("snapped.pcap", pcap(ETHERNET, over([over6] * 7, tagged), cut=1))
     write("raw-behind.pcap", pcap(RAW, over(packets, lambda p: p + b"\0")))
+    offloaded = [(time, packet[:4] + b"\0\0" + packet[6:]) for time, packet in [over6, last6]]
+    write("offloaded.pcap", pcap(ETHERNET, over(offloaded, tagged)))
+    write("offloaded4.pcap", pcap(ETHERNET, over([(0, over4[1][:2] + b"\0\0" + over4[1][4:])], tagged)))
     write("wrong-version.pcap", pcap(IPV4, [over6]))
     strange = [b"", bytes(1), bytes(13), bytes(60), bytes(12) + b"\x81\x00", bytes(12) + b"\x81\x00\x00\x01\x81"]
     write("not-ip.pcap", pcap(ETHERNET, [(0, frame) for frame in strange]))
+    wrapped = ["88641100000100420021", "88470001213f", "8848000121ff", "88e52c000000", "88e700000000", "89260000", "894f0fc60103"]
+    snap = b"\0\x7c\xaa\xaa\x03\0\0\0"
+    others = [bytes(12) + bytes.fromhex(front) + over6[1] for front in wrapped]
+    others += [bytes(12) + b"\x81\0\0\x0c" + bytes.fromhex(wrapped[0]) + over6[1], bytes(12) + snap + ethertype(over4[1]) + over4[1]]
+    others += [bytes(12) + snap + b"\x08\x06" + bytes(28), bytes(12) + b"\0\x26\x42\x42\x03" + bytes(35), bytes(12) + snap]
+    write("wrapped.pcap", pcap(ETHERNET, [(0, frame) for frame in others] + over([over6], tagged)))
+    write("wrapped-cooked.pcap", pcap(SLL, [(0, bytes(14) + b"\x88\x47\0\x01\x21\x3f" + over6[1])]))
     write("not-ip-raw.pcap", pcap(RAW, [(0, b""), (0, b"\x50"), (0, bytes(64))]))
     write("wireless.pcap", pcap(IEEE802_11, [(0, bytes(64))]))
+    good = pcap(RAW, [over6])
+    write("damaged.pcap", good + struct.pack("<IIII", SECOND, 0, 0xFFFFFFFF, 0xFFFFFFFF) + good * 2)
     write("foreign.pcap", b"office: no capture\n" * 40)
     write("nothing.pcap", b"")
     write("many.pcap", pcap(ETHERNET, over([over6] * 3000, tagged)))

@@ -67,23 +67,69 @@ translate 0 not-ip.pcap
 printed "frames 6: IP packets 0, not IP 6, snapped 0; padding cut 0"
 translate 0 not-ip-raw.pcap
 printed "frames 3: IP packets 0, not IP 3, snapped 0; padding cut 0"
+translate 0 wrapped.pcap
+printed "frames 13: IP packets 1, not IP 3, snapped 0; padding cut 0"
+printed "       1  LLC/SNAP: may hold IP, but is not looked into"
+printed "       1  0x8847 MPLS: may hold IP, but is not looked into"
+printed "       1  0x8848 MPLS multicast: may hold IP, but is not looked into"
+printed "       2  0x8864 PPPoE session: may hold IP, but is not looked into"
+printed "       1  0x88e5 MACsec: may hold IP, but is not looked into"
+printed "       1  0x88e7 provider backbone bridge: may hold IP, but is not looked into"
+printed "       1  0x8926 VN-Tag: may hold IP, but is not looked into"
+printed "       1  0x894f NSH: may hold IP, but is not looked into"
+translate 0 wrapped-cooked.pcap
+printed "frames 1: IP packets 0, not IP 0, snapped 0; padding cut 0"
+printed "       1  0x8847 MPLS: may hold IP, but is not looked into"
 translate 0 raw-behind.pcap
 printed "       4   2 malformed packet"
+run 0 translate --table "$work/office" --trace "$work/offloaded.pcap" "$work/out/sent.pcap"
+printed "       2   2 malformed packet"
+printed "frames 2: IP packets 2, not IP 0, snapped 0; padding cut 0"
+grep -q '^packet 1: .*, 104 octets$' "$work/stdout" || fail "a packet whose payload length is 0 is cut to its header"
+translate 0 offloaded4.pcap
+printed "       1   2 malformed packet"
 translate 0 wrong-version.pcap
 printed "       1   2 malformed packet"
 
 # the trace
 run 0 translate --table "$work/office" --trace "$work/downlink.pcap" "$work/out/sent.pcap"
 same out/sent.pcap sent.expected
-printed "packet 1: sent: IPv6 2001:db8:a0::1 > 2001:db8:77::9, traffic class 0xb8, G-PDU, TEID 0x01020304, QFI 5, R 1, downlink, 104 octets"
-printed "packet 4: refused, 11 not a G-PDU: IPv4 198.51.100.7 > 192.0.2.9, traffic class 0x00, End Marker, TEID 0x01020305, 36 octets"
+printed "packet 1: IPv6 2001:db8:a0::1 > 2001:db8:77::9, traffic class 0xb8, G-PDU, TEID 0x01020304, QFI 5, R 1, downlink, 104 octets"
+printed "  entry 2 End.M.GTP6.D.Di 2001:db8:77::/48: sent: IPv6 2001:db8:f::1 > 2001:db8:1::e, traffic class 0xb8, \
+SL 3 then 2001:db8:2::e, \
+2001:db8:b:1:1601:203:400:0, 2001:db8:77::9, IPv4 inside, 152 octets"
+printed "packet 4: IPv4 198.51.100.7 > 192.0.2.9, traffic class 0x00, End Marker, TEID 0x01020305, 36 octets"
+printed "  rule 1 H.M.GTP4.D 192.0.2.0/24: refused, 11 not a G-PDU"
 printed "frames 5: IP packets 4, not IP 1, snapped 0; padding cut 2"
 cp "$work/out/sent.pcap" "$work/sent.pcap"
 run 0 translate --table "$work/gate" --trace "$work/sent.pcap" "$work/out/passed.pcap"
-printed "packet 2: sent: IPv6 2001:db8:d1:0:c633:6407:: > 2001:db8:1::e, traffic class 0xb8, SL 2 then 2001:db8:2::e, \
+printed "packet 2: IPv6 2001:db8:d1:0:c633:6407:: > 2001:db8:1::e, traffic class 0xb8, SL 2 then 2001:db8:2::e, \
 2001:db8:c1:c000:209:1601:203:400, IPv4 inside, 136 octets"
+printed "  entry 1 End 2001:db8:1::/48: sent: IPv6 2001:db8:d1:0:c633:6407:: > 2001:db8:2::e, traffic class 0xb8, \
+SL 1 then 2001:db8:c1:c000:209:1601:203:400, IPv4 inside, 136 octets"
 run 0 translate --table "$work/crane" --trace "$work/sent.pcap" "$work/out/passed.pcap"
 printed "       3   4 no match"
+printed "  refused, 4 no match"
+
+# of two entries or rules that cover a destination the trace names the longer, wherever it stands
+cat >"$work/nested.yaml" <<'END'
+format: 1
+entries:
+- {name: all, behaviour: End, prefix: "2000::/3", hop-limit: 64}
+- {name: site, behaviour: End, prefix: "2001:db8:70::/44", hop-limit: 64}
+- {name: near, behaviour: End, prefix: "2001:db8:80::/44", hop-limit: 64}
+rules:
+- {name: all, prefix: 0.0.0.0/0, hop-limit: 1, direction: downlink, session-type: IPv4, p: 0, q: 0, sid-prefix: "::", source-prefix: "::"}
+- {name: net, prefix: 192.0.0.0/9, hop-limit: 1, direction: downlink, session-type: IPv4, p: 0, q: 0, sid-prefix: "::", source-prefix: "::"}
+- {name: a, prefix: 192.0.2.8/32, hop-limit: 1, direction: downlink, session-type: IPv4, p: 0, q: 0, sid-prefix: "::", source-prefix: "::"}
+END
+run 0 compile "$work/nested.yaml" -o "$work/nested"
+run 0 translate --table "$work/nested" --trace "$work/downlink.pcap" "$work/out/passed.pcap"
+printed "  entry 2 End 2001:db8:70::/44: refused, 8 bad upper layer (ICMPv6 type 4, code 4, pointer 40)"
+printed "  rule 2 H.M.GTP4.D 192.0.0.0/9: refused, 11 not a G-PDU"
+run 0 translate --table "$work/nested" --trace "$work/sent.pcap" "$work/out/passed.pcap"
+printed "  entry 1 End 2000::/3: sent: IPv6 2001:db8:f::1 > 2001:db8:2::e, traffic class 0xb8, \
+SL 2 then 2001:db8:b:1:1601:203:400:0, 2001:db8:77::9, IPv4 inside, 152 octets"
 
 # standard input and output
 "$tool" translate --table "$work/office" - - <"$work/downlink.pcap" >"$work/out/sent.pcap" 2>"$work/stderr" || fail "from - to -"
@@ -121,31 +167,59 @@ rm -f "$work"/out/*
 refused foreign.pcap "foreign.pcap: not a pcap or pcapng capture"
 refused nothing.pcap "nothing.pcap: not a pcap or pcapng capture"
 refused wireless.pcap "wireless.pcap: link type 105 (IEEE802_11) cannot be read"
+gzip -c "$work/downlink.pcap" >"$work/downlink.pcap.gz"
+refused downlink.pcap.gz "downlink.pcap.gz: compressed with gzip: unpack it with \`zcat', and give \`-' for its name"
+code=0
+"$tool" translate --table "$work/office" - "$work/out/sent.pcap" <"$work/downlink.pcap.gz" 2>"$work/stderr" || code=$?
+[ "$code" -eq 1 ] || fail "exit code $code, not 1, of a compressed capture"
+complained "standard input: compressed with gzip"
+zcat "$work/downlink.pcap.gz" | "$tool" translate --table "$work/office" - "$work/out/sent.pcap" >"$work/stdout" || fail "by zcat"
+same out/sent.pcap sent.expected
+rm "$work/out/sent.pcap"
+printf '\037' >"$work/odd.pcap"
+refused odd.pcap "odd.pcap: not a pcap or pcapng capture"
 translate 3 none.pcap
 complained "none.pcap: No such file or directory"
 nothing_left
 translate 3 out
 nothing_left
-for format in same-ethernet same-pcapng; do
-    length=$(stat -c %s "$work/$format.pcap")
-    for ((cut = length - 1; cut > length - 100; cut -= 7)); do
-        head -c "$cut" "$work/$format.pcap" >"$work/cut.pcap"
-        refused cut.pcap "cut.pcap: packet 4: truncated"
-    done
-done
-run 1 trip "${downlink[@]}" "$work/cut.pcap" -o "$work/out/arrived.pcap"
+refused damaged.pcap "damaged.pcap: packet 2: "
+run 1 trip "${downlink[@]}" "$work/damaged.pcap" -o "$work/out/arrived.pcap"
 nothing_left
 
 # an older file stays as it was
 cp "$work/sent.expected" "$work/out/sent.pcap"
-run 1 translate --table "$work/office" "$work/cut.pcap" "$work/out/sent.pcap"
+run 1 translate --table "$work/office" "$work/damaged.pcap" "$work/out/sent.pcap"
 same out/sent.pcap sent.expected
 rm "$work/out/sent.pcap"
+
+# a capture that is cut at its end: what comes before is counted and written, whole
+for format in same-ethernet same-pcapng; do
+    length=$(stat -c %s "$work/$format.pcap")
+    for ((cut = length - 1; cut > length - 130; cut -= 7)); do
+        head -c "$cut" "$work/$format.pcap" >"$work/cut.pcap"
+        translate 1 cut.pcap
+        complained "cut.pcap: packet 4: truncated"
+        complained ": the capture is cut here, and only what comes before is used"
+        printed "frames 3: IP packets 3, not IP 0, snapped 0; padding cut 0"
+        printed "the capture is cut in frame 4, which is not counted"
+        printed "       2   0 sent"
+        same out/sent.pcap sent-cut.expected
+    done
+done
+head -c -1 "$work/again.pcap" >"$work/cut.pcap"
+run 1 trip "${downlink[@]}" "$work/cut.pcap" -o "$work/out/arrived.pcap"
+printed "2 of 2 packets arrived, 2 of them with the destination, TEID, QFI, R, traffic class and inner octets that went in"
+head -c "$(stat -c %s "$work/out/arrived.pcap")" "$work/again.pcap" >"$work/first.expected"
+same out/arrived.pcap first.expected
+head -c 20 "$work/same-ethernet.pcap" >"$work/cut.pcap"
+rm "$work"/out/*
+refused cut.pcap "cut.pcap: not a pcap or pcapng capture: truncated"
 
 # bad tables
 run 3 translate --table "$work/none" "$work/downlink.pcap" "$work/out/sent.pcap"
 run 1 translate --table "$yard/office.yaml" "$work/downlink.pcap" "$work/out/sent.pcap"
-complained "office.yaml: not sound"
+complained "office.yaml: a description: compile it first"
 head -c 100 "$work/office" >"$work/short"
 run 1 trip --near "$work/office" --far "$work/short" "$work/downlink.pcap" -o "$work/out/sent.pcap"
 complained "short: not sound"
@@ -155,6 +229,10 @@ nothing_left
 run 2 translate "$work/downlink.pcap" "$work/out/sent.pcap"
 run 2 translate --table "$work/office" "$work/downlink.pcap"
 run 2 translate --table "$work/office" "$work/downlink.pcap" "$work/out/sent.pcap" more
+run 2 translate --table - - "$work/out/sent.pcap" <"$work/downlink.pcap"
+complained "standard input can be read once: \`-' stands for 2 inputs"
+run 2 trip --near - --via - --far "$work/crane" - </dev/null
+complained "standard input can be read once: \`-' stands for 3 inputs"
 cp "$work/downlink.pcap" "$work/own.pcap"
 ln -s own.pcap "$work/link.pcap"
 run 2 translate --table "$work/office" "$work/own.pcap" "$work/link.pcap"
@@ -180,11 +258,58 @@ code=0
 [ "$(cat "$work/code")" -eq 3 ] || fail "exit code $(cat "$work/code"), not 3, on a closed pipe"
 complained "standard output: Broken pipe"
 
-# a run that takes longer than a second says how far it is
-{ head -c 300000 "$work/many.pcap"; sleep 1.2; tail -c +300001 "$work/many.pcap"; } |
-    "$tool" translate --table "$work/office" - "$work/out/sent.pcap" >"$work/stdout" 2>"$work/stderr" || fail "a slow capture"
-complained "packets ..."
+# a closed pipe ends the work: this capture has no end, and the tool is told only by what it prints
+endless() {
+    cat "$work/many.pcap"
+    while tail -c +25 "$work/many.pcap" 2>/dev/null; do :; done
+}
+ended() { # ARGUMENT...
+    { code=0; endless | timeout 60 "$tool" "$@" 2>"$work/stderr" || code=$?; echo "$code" >"$work/code"; } | head -n 1 >"$work/stdout"
+    [ "$(cat "$work/code")" -eq 3 ] || fail "exit code $(cat "$work/code"), not 3, on a closed pipe: $*"
+    complained "kawsarpa: standard output: Broken pipe"
+    [ "$(wc -l <"$work/stderr")" -eq 1 ] || fail "a closed pipe is told more than once"
+}
+rm -f "$work"/out/*
+ended translate --table "$work/office" --trace - "$work/out/sent.pcap"
+nothing_left
+ended trip "${downlink[@]}" - -o "$work/out/sent.pcap"
+nothing_left
+ended trip "${uplink[@]}" -
+
+# a run that takes longer than a second says how far it is, on a terminal alone, and not with --quiet
+# shellcheck disable=SC2120 # arguments are passed on a terminal, below
+slow() { # ARGUMENT...
+    { head -c 300000 "$work/many.pcap"; sleep 1.2; tail -c +300001 "$work/many.pcap"; } |
+        "$tool" translate --table "$work/office" "$@" - "$work/out/sent.pcap"
+}
+# shellcheck disable=SC2119
+slow >"$work/stdout" 2>"$work/stderr" || fail "a slow capture"
 printed "    3000   0 sent"
+[ ! -s "$work/stderr" ] || fail "progress is told where there is no terminal"
+export -f slow
+export tool work
+script -qec "bash -c 'slow >/dev/null'" /dev/null </dev/null >"$work/stdout" || fail "a slow capture, on a terminal"
+grep -q ' packets \.\.\.' "$work/stdout" || fail "no progress is told on a terminal"
+script -qec "bash -c 'slow --quiet'" /dev/null </dev/null >"$work/stdout" || fail "a slow capture, quietly"
+nothing_printed
+
+# --quiet: the exit code, the output, and faults
+run 0 translate --table "$work/office" --quiet "$work/downlink.pcap" "$work/out/sent.pcap"
+same out/sent.pcap sent.expected
+nothing_printed
+run 0 translate -q --table "$work/office" "$work/snapped.pcap" "$work/out/sent.pcap"
+nothing_printed
+complained "packet 1 is snapped"
+"$tool" translate -q --table "$work/office" "$work/downlink.pcap" - 2>"$work/stderr" | cmp - "$work/sent.expected" >&2 || fail "-q to -"
+[ ! -s "$work/stderr" ] || fail "something is said"
+run 2 translate --table "$work/office" --quiet --trace "$work/downlink.pcap" "$work/out/sent.pcap"
+complained "--trace and --quiet cannot be had together"
+run 1 trip "${downlink[@]}" -q "$work/downlink.pcap" -o "$work/out/arrived.pcap"
+same out/arrived.pcap again.pcap
+nothing_printed
+[ ! -s "$work/stderr" ] || fail "something is said"
+run 0 trip "${uplink[@]}" --quiet "$work/uplink.pcap"
+nothing_printed
 
 # the field guide has a row for each answer, under its name
 for number in {0..16} 25 26; do

@@ -145,16 +145,22 @@ refused 1 nothing.pcap "nothing.pcap: not a pcap or pcapng capture"
 refused 1 wireless.pcap "wireless.pcap: link type 105 (IEEE802_11) cannot be read"
 refused 3 none.pcap "none.pcap: No such file or directory"
 refused 3 . "Is a directory"
+refused 1 damaged.pcap "damaged.pcap: packet 2: "
+
+# a capture that is cut at its end: what comes before is counted
 for cut in 1 50 110; do
     head -c -"$cut" "$work/numbered.pcap" >"$work/cut.pcap"
-    refused 1 cut.pcap "cut.pcap: packet 18: truncated"
+    run 1 loss "$work/cut.pcap"
+    complained "cut.pcap: packet 18: truncated"
+    printed "frames 17: IP packets 17, not IP 0, snapped 0; padding cut 0"
+    printed "the capture is cut in frame 18, which is not counted"
 done
 
 # usage
 run 0 --help
 printed "  loss       count the lost sequence numbers of each TEID in a capture"
 run 0 loss --help
-printed "Exit codes: 0 printed, whatever was lost; 1 the capture is bad; 2 wrong usage;"
+printed "Exit codes: 0 printed, whatever was lost; 1 the capture is bad or cut; 2 wrong"
 run 2 loss
 complained "a capture is needed"
 run 2 loss "$work/numbered.pcap" "$work/numbered.pcap"
@@ -174,10 +180,10 @@ for option in '' --csv; do
     complained "standard output: Broken pipe"
 done
 
-# a run that takes longer than a second says how far it is
+# a run that takes longer than a second says nothing of it where there is no terminal
 { head -c 300000 "$work/long.pcap"; sleep 1.2; tail -c +300001 "$work/long.pcap"; } |
     "$tool" loss - >"$work/stdout" 2>"$work/stderr" || fail "a slow capture"
-complained "packets ..."
+[ ! -s "$work/stderr" ] || fail "progress is told where there is no terminal"
 printed "0x00000001     0    2999     3000     3000        0        0        0   0.0000"
 
 echo "loss.sh: all $checks checks hold"

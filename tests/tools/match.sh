@@ -326,6 +326,14 @@ printed "  nothing to check: empty has no End.M.GTP6.D.Di entry and no rule"
 run 1 match --near office "${waypoints[@]}" --far empty --both
 printed "0 of 2 fit: 0 of 2 from office to empty, 0 of 0 from empty to office"
 
+### --quiet: the exit code alone, and faults
+
+run 0 match --near office "${waypoints[@]}" --far crane --both --quiet
+nothing_printed
+run 1 match -q --near office "${waypoints[@]}" --far empty
+nothing_printed
+[ ! -s "$work/stderr" ] || fail "something is said"
+
 ### tables that are not sound, files that are not there
 
 unsound() { # ARGUMENT...
@@ -342,7 +350,12 @@ unsound --near office "${waypoints[@]}" --far faulty
 octet faulty gate 18 0
 unsound --near office --via mast --via faulty --far crane
 run 1 match --near office "${waypoints[@]}" --far "$yard/crane.yaml"
-complained "crane.yaml: not sound: the format is not 1"
+complained "crane.yaml: a description: compile it first"
+nothing_printed
+run 2 match --near - "${waypoints[@]}" --far - <office
+complained "standard input can be read once: \`-' stands for 2 inputs"
+nothing_printed
+run 2 match --near office --via - --via mast --via - --far crane <gate
 nothing_printed
 for arguments in '--near none --far crane' '--near office --far none' '--near office --via gate --via none --far crane'; do
     # shellcheck disable=SC2086

@@ -3,8 +3,8 @@ packets mutated in sound ones.
 
 TOOL is best built with the sanitizers. OFFICE to CRANE are the yard's tables, EVERYWHERE one that leads every address to End.M.GTP6.D or to
 a rule, CAPTURES a directory that captures.py and the yard's make-capture.py have filled. Every run has to end with an exit code of the
-list, quietly, and to leave its output exactly when it says so. What arrives is as it went in, since the yard's tables fit. What loss does
-not count has no S, or translate refuses it by EVERYWHERE.
+list, quietly, and to leave its output exactly when it says so: after a failure only where the capture is cut.
+What arrives is as it went in, since the yard's tables fit. What loss does not count has no S, or translate refuses it by EVERYWHERE.
 """
 
 import random
@@ -70,7 +70,7 @@ def run(arguments: list[str], codes: list[int], out: Path) -> tuple[str, str]:
         fault = "the sanitizers complain"
     elif done.returncode == 0 and not written:
         fault = "no output"
-    elif arguments[1] != "trip" and done.returncode != 0 and written:
+    elif arguments[1] != "trip" and done.returncode != 0 and written and ": the capture is cut here" not in done.stderr:
         fault = "output after a failure"
     return fault, done.stdout
 

@@ -131,6 +131,6 @@ arrivals "$changed destination" "$(unchanged 40)"
 
 run 0 trip --help
 printed "Exit codes: 0 every packet arrived with what went in; 1 one did not arrive, or"
-printed "arrived changed, the capture is bad, or a table not sound; 2 wrong usage; 3 the"
+printed "arrived changed, the capture is bad or cut, or a table not sound; 2 wrong"
 
 echo "promise.sh: all $checks checks hold"

@@ -67,6 +67,12 @@ for command in compile show check explain; do
     expect 2 'needed' "$command"
     expect 2 'unrecognized option' "$command" --nonsense
 done
+for command in '' compile show check match explain translate trip loss; do
+    # shellcheck disable=SC2086 # no argument where there is no command
+    expect 0 'Exit codes: 0' $command -h
+    # shellcheck disable=SC2086
+    "$tool" $command --help | cmp -s - output || fail "-h is not --help: kawsarpa $command"
+done
 expect 2 'a command is needed'
 expect 2 'no such command: nonsense' nonsense
 expect 2 'is enough' show one two
@@ -204,6 +210,68 @@ refuse ':3: rule "r": prefix is "10.0.0.0/33", not an IPv4 prefix' "format: 1\nr
 refuse ':4: rule "s": not sound: an earlier rule has the same prefix and length: "r"' \
     "format: 1\nrules:\n- {name: r, prefix: 10.0.0.0/8, $rule, $prefixes}\n- {name: s, prefix: 10.0.0.0/8, $rule, $prefixes}\n"
 
+# all mistakes are told, in the order of the lists, each with its line
+cat >bad.yaml <<'END'
+format: 1
+waypoints:
+- {name: w, address: "::g"}
+- {name: w, address: "::1"}
+policies:
+- {name: p, waypoints: [v, w, u], last-sid: "::2/64", args-octet: 12}
+entries:
+- {name: a b, behaviour: END, prefix: "::/129", hop-limit: 0, policy: q}
+- {name: e, behaviour: End.M.GTP6.E, prefix: "::", hop-limit: 1, direction: up, policy: p}
+- {name: good, behaviour: End, prefix: "2001:db8::/32", hop-limit: 1}
+rules:
+- {name: r, prefix: 10.0.0.0, hop-limit: 256, direction: down, session-type: IPv5, p: 8, q: 13, sid-prefix: x, source-prefix: y,
+   waypoints: [w, z]}
+END
+expect 1 '' compile bad.yaml -o bad.table
+sed 's/, not .*//' errors | cmp - <(sed 's/^/kawsarpa: bad.yaml:/' <<'END'
+4: waypoint "w": an earlier waypoint has this name
+8: entry "a b": a name is 1 to 63 letters, digits, - _ or .
+3: waypoint "w": address is "::g"
+6: policy "p": "v" is not the name of a waypoint
+6: policy "p": "u" is not the name of a waypoint
+6: policy "p": last-sid is "::2/64"
+6: policy "p": args-octet is "12"
+8: entry "a b": behaviour is "END"
+8: entry "a b": prefix is "::/129"
+8: entry "a b": hop-limit is "0"
+8: entry "a b": "q" is not the name of a policy
+9: entry "e": End.M.GTP6.E needs source
+9: entry "e": End.M.GTP6.E needs session-type
+9: entry "e": End.M.GTP6.E uses no policy
+9: entry "e": End.M.GTP6.E needs args-octet
+9: entry "e": End.M.GTP6.E needs source-port
+9: entry "e": prefix is "::"
+9: entry "e": direction is "up"
+12: rule "r": prefix is "10.0.0.0"
+12: rule "r": hop-limit is "256"
+12: rule "r": direction is "down"
+12: rule "r": session-type is "IPv5"
+12: rule "r": p is "8"
+12: rule "r": q is "13"
+12: rule "r": sid-prefix is "x"
+12: rule "r": source-prefix is "y"
+13: rule "r": "z" is not the name of a waypoint
+END
+) || fail "not all mistakes of a description are told"
+compgen -G 'bad.table*' >/dev/null && fail "a file was left: $(compgen -G 'bad.table*')"
+
+# a source that no packet may have is warned of, and the table is written
+for source in '::' ff02::1; do
+    printf 'format: 1\nentries:\n- {%s,\n   source: "%s"}\n' "$end" "$source" >odd.yaml
+    expect 0 '' compile odd.yaml -o odd.table
+    case $source in ::) words='the unspecified' ;; *) words='a multicast' ;; esac
+    grep -qx "kawsarpa: odd.yaml:4: entry \"a\": warning: source is \"$source\", $words address: routers drop what bears it" errors ||
+        fail "no warning of the source $source"
+    expect 0 '1 entry' check odd.table
+done
+printf 'format: 1\nentries:\n- {%s}\n- {%s, source: "fe80::1"}\n' "$end" "${end/name: a/name: b}" | sed '4s/::.64/1::\/64/' >odd.yaml
+expect 0 '' compile odd.yaml -o odd.table
+[ ! -s errors ] || fail "a warning of no source, or of a good one"
+
 # as many records as there may be, and one more of each
 python3 "$here/descriptions.py" most most.yaml || fail "descriptions.py failed"
 expect 0 '' compile most.yaml -o most.table
@@ -217,6 +285,12 @@ for list in waypoints:224 policies:16 entries:64 rules:16; do
     sed "/^${list%:*}:/{n;p;s/name: /name: one-more-/}" most.yaml >more.yaml
     expect 1 "too many ${list%:*}: at most ${list#*:}" compile more.yaml -o bad.table
 done
+
+### --quiet: the exit code alone, and faults
+
+expect 0 '' check --quiet site.table
+[ ! -s output ] || fail "check --quiet prints something"
+expect 1 'site.yaml: a description' check -q site.yaml
 
 ### tables that are refused
 
@@ -259,6 +333,16 @@ head -c 783 site.table >cut.table
 expect 1 'take 784 octets; there are 783)' check cut.table
 { cat site.table; printf x; } >long.table
 expect 1 'take 784 octets; there are 785)' check long.table
+printf '# no table\n{"format": 1}\n' >other.yaml
+for description in site.yaml other.yaml -; do
+    expect 1 ": a description: compile it first, with \`kawsarpa compile'" check "$description" <site.yaml
+    [ "$(wc -l <errors)" -eq 1 ] || fail "more than one message about a description"
+done
+expect 1 ': a description: compile it first' show site.yaml
+gzip -c site.table >packed.table.gz
+expect 1 "packed.table.gz: compressed with gzip: unpack it with \`zcat'" check packed.table.gz
+gzip -c site.yaml >packed.yaml.gz
+expect 1 "packed.yaml.gz: compressed with gzip: unpack it with \`zcat'" compile packed.yaml.gz -o bad.table
 : >none.table
 expect 1 '(0 octets are no header)' check none.table
 for size in 1 7 15; do
