@@ -1,10 +1,13 @@
-# Kawsarpa. `make` proves every crate; `make test` is the gate.
+# Kawsarpa. `make` proves every crate that changed; `make check` is quick; `make test` is the gate.
+#
+# Names: `tool` builds the command-line tool, kawsarpa, from the sources in tools/; the targets that end in -packages install what is
+# missing of Debian's packages.
 
 SHELL := bash
 .SHELLFLAGS := -eu -o pipefail -c
 .DELETE_ON_ERROR:
 .NOTPARALLEL:
-.PHONY: all prove test ci toolchain tools format refusers second staticlib library programs boundary fuzz mutants peers tool tool-test install-test install uninstall demo demo-packages bench bench-proofs bench-packages clean
+.PHONY: all prove check check-proofs check-packages test test-packages make-test ci toolchain format refusers second staticlib library programs boundary fuzz mutants peers tool tool-test install-test install uninstall demo demo-packages bench bench-proofs bench-packages clean
 
 archive := target/staticlib/libkawsarpa.a
 second := tests/second/target/release/second
@@ -16,20 +19,31 @@ all: prove
 prove: toolchain
 	rt check
 
-# Everything. The library is built from what `rt ci` proved, so that is first; its count of what passed is said again at the end.
-test: toolchain tools format second ci refusers library programs boundary tool-test install-test
+# The quick tests, for a change that is being made: the library's crates that changed since they were last proved, the C tests, the
+# second program and its vectors. Not the verdict: nothing is proved from nothing, and no must-fail edit is tried.
+check: toolchain check-packages make-test check-proofs library
+	@echo "check: all quick tests hold; the gate is 'make test'"
+
+check-proofs: toolchain
+	rt check kawsarpa
+
+# Everything. The library is built from what `rt ci` proved, so that is first; its count of what passed is said again at the end, and
+# before it whether this is another toolchain than that of rt.version.
+test: toolchain test-packages make-test format second ci refusers library programs boundary tool-test install-test
+	@tests/make/toolchain.sh
 	@tail -n 1 target/ci.log
 
 # every proof from nothing, and the must-fail edits; `rt ci` removes target/, so its output goes there afterwards
 ci: toolchain
 	log=$$(mktemp); trap 'rm -f "$$log"' EXIT; rt ci | tee "$$log"; cp "$$log" target/ci.log
 
-# the proofs were checked with the toolchain that the file names
+# the proofs were checked with the toolchain that rt.version names; another one is told, and used
 toolchain:
-	@found=$$(rt version) || { echo "rt is not installed: the proofs need the Rattle toolchain" >&2; exit 1; }; \
-	if [ "$$found" != "$$(cat rt.version)" ]; then \
-	  echo "toolchain: expected '$$(cat rt.version)', found '$$found'" >&2; exit 1; \
-	fi
+	@tests/make/toolchain.sh
+
+# what this file says of another toolchain, with an `rt` that is none
+make-test:
+	tests/make/run.sh
 
 # Debian's packages of a list of NAME:PACKAGE, where the command or file NAME is missing
 define install
@@ -44,8 +58,12 @@ define install
 	fi
 endef
 
+# what the quick tests need
+check-packages:
+	$(call install,gcc:gcc g++:g++ nm:binutils cargo:cargo)
+
 # what the tests beside the proofs need
-tools:
+test-packages:
 	$(call install,gcc:gcc g++:g++ nm:binutils cargo:cargo valgrind:valgrind mandoc:mandoc pkg-config:pkg-config $(tool_needs))
 
 # the layout of the sources, and that what the documents list is there
@@ -54,7 +72,7 @@ format:
 	tests/docs.sh
 
 # what refuses each must-fail edit is what docs/STATEMENTS.md says, by the logs that `rt ci` left: so behind `ci`
-refusers: tools
+refusers: test-packages
 	tests/docs.sh refusers
 
 # the second program: its own tests, and the worked packets of document 01
@@ -86,11 +104,11 @@ fuzz: staticlib
 	tests/boundary/target/release/boundary fuzz --seconds $(SECONDS) $(if $(SEED),--seed $(SEED))
 
 # tshark and the kernel's SRv6 judge what the library sends. Run as root; what is missing of Debian's packages is installed.
-peers: tools staticlib
+peers: test-packages staticlib
 	tests/peers/run.sh $(archive)
 
 # each rule of the second program changed in one place: the library's answers must show every change
-mutants: tools staticlib
+mutants: test-packages staticlib
 	tests/mutants/run.sh $(archive)
 
 # the command-line tool, and the same with sanitizers for its tests
@@ -102,7 +120,7 @@ tool_flags := -std=c11 -D_GNU_SOURCE -g -Wall -Wextra -Wpedantic -Wshadow -Wconv
 tool_libraries := -lcyaml -lyaml -lpcap
 sanitizers := -fsanitize=address,undefined -fno-sanitize-recover=all
 
-tool: tools staticlib target/tools/kawsarpa target/tools/kawsarpa-asan
+tool: test-packages staticlib target/tools/kawsarpa target/tools/kawsarpa-asan
 
 # where it is missing; `staticlib` brings it up to date
 $(archive):

@@ -37,7 +37,7 @@ done <"$work/crates"
 echo "docs: $(wc -l <"$work/crates") crates"
 
 links=0
-for document in README.md CHANGELOG.md docs/*.md examples/*/README.md tests/*/README.md; do
+for document in README.md CHANGELOG.md CONTRIBUTING.md docs/*.md examples/*/README.md tests/*/README.md; do
     while read -r link; do
         links=$((links + 1))
         if [ ! -e "$(dirname "$document")/$link" ]; then
