@@ -30,8 +30,8 @@ def said(rows):
 
 # What is asked of the library, by instructions: what, where, the most that library / anchor may be.
 TARGETS = [
-    ("Di at 164 octets, 8 entries in order", DI_164, 1.5),
-    ("Di at 1,500 octets, 8 entries in order", DI_1500, 1.3),
+    ("Di at 164 octets, 8 entries in order", DI_164, 1.32),
+    ("Di at 1,500 octets, 8 entries in order", DI_1500, 1.27),
     ("soundness of a full table in order", FULL, 1.5),
     *((f"offer at {said(rows)}, {arrival}", offer(arrival, rows), 1.25) for rows in OFFER_LIMITS for arrival in ARRIVALS),
 ]
