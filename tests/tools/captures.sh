@@ -276,21 +276,18 @@ ended trip "${downlink[@]}" - -o "$work/out/sent.pcap"
 nothing_left
 ended trip "${uplink[@]}" -
 
-# a run that takes longer than a second says how far it is, on a terminal alone, and not with --quiet
-# shellcheck disable=SC2120 # arguments are passed on a terminal, below
-slow() { # ARGUMENT...
-    { head -c 300000 "$work/many.pcap"; sleep 1.2; tail -c +300001 "$work/many.pcap"; } |
-        "$tool" translate --table "$work/office" "$@" - "$work/out/sent.pcap"
-}
-# shellcheck disable=SC2119
-slow >"$work/stdout" 2>"$work/stderr" || fail "a slow capture"
+# a run that takes longer than a second says how far it is, on a terminal alone, and not with --quiet; a program of its own, as `script`
+# hands on no function where its shell is not bash
+cat >"$work/slow" <<EOF
+{ head -c 300000 "$work/many.pcap"; sleep 1.2; tail -c +300001 "$work/many.pcap"; } |
+    "$tool" translate --table "$work/office" "\$@" - "$work/out/sent.pcap"
+EOF
+sh "$work/slow" >"$work/stdout" 2>"$work/stderr" || fail "a slow capture"
 printed "    3000   0 sent"
 [ ! -s "$work/stderr" ] || fail "progress is told where there is no terminal"
-export -f slow
-export tool work
-script -qec "bash -c 'slow >/dev/null'" /dev/null </dev/null >"$work/stdout" || fail "a slow capture, on a terminal"
+script -qec "sh '$work/slow' >/dev/null" /dev/null </dev/null >"$work/stdout" || fail "a slow capture, on a terminal"
 grep -q ' packets \.\.\.' "$work/stdout" || fail "no progress is told on a terminal"
-script -qec "bash -c 'slow --quiet'" /dev/null </dev/null >"$work/stdout" || fail "a slow capture, quietly"
+script -qec "sh '$work/slow' --quiet" /dev/null </dev/null >"$work/stdout" || fail "a slow capture, quietly"
 nothing_printed
 
 # --quiet: the exit code, the output, and faults
