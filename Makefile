@@ -7,7 +7,9 @@ SHELL := bash
 .SHELLFLAGS := -eu -o pipefail -c
 .DELETE_ON_ERROR:
 .NOTPARALLEL:
-.PHONY: all prove check check-proofs check-packages test test-packages make-test ci toolchain format refusers second staticlib library programs boundary fuzz mutants peers tool tool-test install-test install uninstall demo demo-packages bench bench-proofs bench-packages clean
+.PHONY: all prove check check-proofs check-packages test test-packages make-test ci toolchain format lint lint-packages refusers second \
+  staticlib library programs boundary fuzz mutants peers tool tool-test install-test install uninstall demo demo-packages bench \
+  bench-proofs bench-packages clean
 
 archive := target/staticlib/libkawsarpa.a
 second := tests/second/target/release/second
@@ -19,9 +21,9 @@ all: prove
 prove: toolchain
 	rt check
 
-# The quick tests, for a change that is being made: the library's crates that changed since they were last proved, the C tests, the
-# second program and its vectors. Not the verdict: nothing is proved from nothing, and no must-fail edit is tried.
-check: toolchain check-packages make-test check-proofs library
+# The quick tests, for a change that is being made: the linters, the library's crates that changed since they were last proved, the C
+# tests, the second program and its vectors. Not the verdict: nothing is proved from nothing, and no must-fail edit is tried.
+check: toolchain check-packages make-test lint check-proofs library
 	@echo "check: all quick tests hold; the gate is 'make test'"
 
 check-proofs: toolchain
@@ -29,7 +31,7 @@ check-proofs: toolchain
 
 # Everything. The library is built from what `rt ci` proved, so that is first; its count of what passed is said again at the end, and
 # before it whether this is another toolchain than that of rt.version.
-test: toolchain test-packages make-test format second ci refusers library programs boundary tool-test install-test
+test: toolchain test-packages make-test format lint second ci refusers library programs boundary tool-test install-test
 	@tests/make/toolchain.sh
 	@tail -n 1 target/ci.log
 
@@ -71,11 +73,20 @@ format:
 	rt fmt --check
 	tests/docs.sh
 
-# what refuses each must-fail edit is what docs/STATEMENTS.md says, by the logs that `rt ci` left: so behind `ci`
+# what shellcheck, clang-format, rustfmt and clippy say of the sources that are not Rattle's, and that a finding is a failure
+lint: lint-packages
+	tests/lint.sh
+	tests/make/lint.sh
+
+# gcc links the build script of tests/boundary
+lint-packages:
+	$(call install,git:git shellcheck:shellcheck clang-format:clang-format gcc:gcc cargo:cargo rustfmt:rustfmt cargo-clippy:rust-clippy)
+
+# what refuses each must-fail edit is what docs/MUST-FAIL.md says, by the logs that `rt ci` left: so behind `ci`
 refusers: test-packages
 	tests/docs.sh refusers
 
-# the second program: its own tests, and the worked packets of document 01
+# the second program: its own tests, and the worked packets of docs/RULES.md
 second:
 	cd tests/second && cargo test --release --offline --quiet && cargo run --release --offline --quiet -- worked
 

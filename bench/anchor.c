@@ -94,9 +94,12 @@ static inline unsigned int read_g_pdu(const uint8_t *udp, size_t size, uint8_t d
 static uint8_t inner_next(uint8_t session, const uint8_t *inner, size_t size)
 {
     switch (session) {
-    case KAWSARPA_SESSION_IPV4: return IPV4;
-    case KAWSARPA_SESSION_IPV6: return IPV6;
-    case KAWSARPA_SESSION_ETHERNET: return ETHERNET;
+    case KAWSARPA_SESSION_IPV4:
+        return IPV4;
+    case KAWSARPA_SESSION_IPV6:
+        return IPV6;
+    case KAWSARPA_SESSION_ETHERNET:
+        return ETHERNET;
     default:
         if (size == 0)
             return 0;
@@ -108,10 +111,14 @@ static uint8_t inner_next(uint8_t session, const uint8_t *inner, size_t size)
 static bool session_accepts(uint8_t session, uint8_t next)
 {
     switch (session) {
-    case KAWSARPA_SESSION_IPV4: return next == IPV4;
-    case KAWSARPA_SESSION_IPV6: return next == IPV6;
-    case KAWSARPA_SESSION_ETHERNET: return next == ETHERNET;
-    default: return next == IPV4 || next == IPV6;
+    case KAWSARPA_SESSION_IPV4:
+        return next == IPV4;
+    case KAWSARPA_SESSION_IPV6:
+        return next == IPV6;
+    case KAWSARPA_SESSION_ETHERNET:
+        return next == ETHERNET;
+    default:
+        return next == IPV4 || next == IPV6;
     }
 }
 
@@ -138,8 +145,8 @@ static uint64_t at_waypoint(const uint8_t *packet, size_t size, uint8_t *out, si
 }
 
 /* What D and Di do; with `drop_in` the arriving destination follows the last SID. */
-static inline uint64_t encapsulate(const struct kawsarpa_entry *e, const struct kawsarpa_policy *y, bool drop_in, const uint8_t *packet, size_t size,
-                                   uint8_t *out, size_t room)
+static inline uint64_t encapsulate(const struct kawsarpa_entry *e, const struct kawsarpa_policy *y, bool drop_in, const uint8_t *packet,
+                                   size_t size, uint8_t *out, size_t room)
 {
     struct chain c;
     if (!read_chain(packet, size, &c))
@@ -180,13 +187,15 @@ static inline uint64_t encapsulate(const struct kawsarpa_entry *e, const struct 
 }
 
 /* End.M.GTP6.D (RFC 9433, 6.3). */
-static uint64_t at_d(const struct kawsarpa_entry *e, const struct kawsarpa_policy *y, const uint8_t *packet, size_t size, uint8_t *out, size_t room)
+static uint64_t at_d(const struct kawsarpa_entry *e, const struct kawsarpa_policy *y, const uint8_t *packet, size_t size, uint8_t *out,
+                     size_t room)
 {
     return encapsulate(e, y, false, packet, size, out, room);
 }
 
 /* End.M.GTP6.D.Di (RFC 9433, 6.4). */
-static uint64_t at_di(const struct kawsarpa_entry *e, const struct kawsarpa_policy *y, const uint8_t *packet, size_t size, uint8_t *out, size_t room)
+static uint64_t at_di(const struct kawsarpa_entry *e, const struct kawsarpa_policy *y, const uint8_t *packet, size_t size, uint8_t *out,
+                      size_t room)
 {
     return encapsulate(e, y, true, packet, size, out, room);
 }
@@ -291,18 +300,25 @@ static bool bad_header4(const uint8_t *packet)
     return (packet[0] & 15) != 5 || (word16(packet + 6) & 0x3FFF) != 0 || header_sum(packet) != 0xFFFF;
 }
 
-static inline uint64_t behave(const struct kawsarpa_entry *e, const struct kawsarpa_policy *y, const uint8_t *packet, size_t size, uint8_t *out, size_t room)
+static inline uint64_t behave(const struct kawsarpa_entry *e, const struct kawsarpa_policy *y, const uint8_t *packet, size_t size,
+                              uint8_t *out, size_t room)
 {
     switch (e->behaviour) {
-    case KAWSARPA_BEHAVIOUR_END: return at_waypoint(packet, size, out, room);
-    case KAWSARPA_BEHAVIOUR_END_M_GTP6_D: return at_d(e, y, packet, size, out, room);
-    case KAWSARPA_BEHAVIOUR_END_M_GTP6_D_DI: return at_di(e, y, packet, size, out, room);
-    case KAWSARPA_BEHAVIOUR_END_M_GTP6_E: return at_e6(e, packet, size, out, room);
-    default: return at_e4(e, packet, size, out, room);
+    case KAWSARPA_BEHAVIOUR_END:
+        return at_waypoint(packet, size, out, room);
+    case KAWSARPA_BEHAVIOUR_END_M_GTP6_D:
+        return at_d(e, y, packet, size, out, room);
+    case KAWSARPA_BEHAVIOUR_END_M_GTP6_D_DI:
+        return at_di(e, y, packet, size, out, room);
+    case KAWSARPA_BEHAVIOUR_END_M_GTP6_E:
+        return at_e6(e, packet, size, out, room);
+    default:
+        return at_e4(e, packet, size, out, room);
     }
 }
 
-uint64_t anchor_at_entry(const struct kawsarpa_entry *e, const struct kawsarpa_policy *y, const uint8_t *packet, size_t size, uint8_t *out, size_t room)
+uint64_t anchor_at_entry(const struct kawsarpa_entry *e, const struct kawsarpa_policy *y, const uint8_t *packet, size_t size, uint8_t *out,
+                         size_t room)
 {
     return malformed(packet, size) ? KAWSARPA_ANSWER_MALFORMED : behave(e, y, packet, size, out, room);
 }

@@ -6,9 +6,11 @@
 
 #include <stdbool.h>
 
-uint64_t anchor_translate_ipv6(const uint8_t *packet, size_t packet_len, const uint8_t *table, size_t table_len, uint8_t *out, size_t out_len);
+uint64_t anchor_translate_ipv6(const uint8_t *packet, size_t packet_len, const uint8_t *table, size_t table_len, uint8_t *out,
+                               size_t out_len);
 
-uint64_t anchor_translate_ipv4(const uint8_t *packet, size_t packet_len, const uint8_t *table, size_t table_len, uint8_t *out, size_t out_len);
+uint64_t anchor_translate_ipv4(const uint8_t *packet, size_t packet_len, const uint8_t *table, size_t table_len, uint8_t *out,
+                               size_t out_len);
 
 /* The same without a table: all rows but 1 and 4. The record comes from a sound table; `policy` is read at D and Di only. */
 uint64_t anchor_at_entry(const struct kawsarpa_entry *entry, const struct kawsarpa_policy *policy, const uint8_t *packet, size_t packet_len,

@@ -30,7 +30,7 @@ uint64_t anchor_loss_offer(struct kawsarpa_loss_row *rows, size_t count, uint32_
     const int16_t distance = (int16_t)(number - row->highest);
     row->seen++;
     if (distance > 0) {
-        row->new++;
+        row->new += 1; /* clang-format takes `new` for that of C++, and would part it from `++` */
         row->lost += (uint64_t)distance - 1;
         row->highest = number;
     } else if (distance == 0) {

@@ -53,8 +53,8 @@ static bool rule_sound(const struct kawsarpa_rule *r)
 {
     return r->prefix_length <= IPV4_BITS && (uint32_t)((uint64_t)word32(r->prefix) << r->prefix_length) == 0 && r->hop_limit != 0 &&
            direction_known(r->direction) && session_known(r->session_type) && r->p <= P_MOST && r->q <= Q_MOST &&
-           clear_past(r->sid_prefix, 8U * r->p) && clear_past(r->source_prefix, 8U * r->q) &&
-           r->waypoint_count <= KAWSARPA_WAYPOINTS_MAX && r->reserved == 0;
+           clear_past(r->sid_prefix, 8U * r->p) && clear_past(r->source_prefix, 8U * r->q) && r->waypoint_count <= KAWSARPA_WAYPOINTS_MAX &&
+           r->reserved == 0;
 }
 
 static bool policy_sound(const struct kawsarpa_policy *y)
@@ -122,7 +122,8 @@ static bool header_sound(const uint8_t *table, size_t table_len, struct anchor_t
     t->entries = (const void *)(header + 1);
     t->rules = (const void *)(t->entries + t->entry_count);
     t->policies = (const void *)(t->rules + t->rule_count);
-    return table_len == sizeof *header + t->entry_count * sizeof *t->entries + t->rule_count * sizeof *t->rules + t->policy_count * sizeof *t->policies;
+    return table_len ==
+           sizeof *header + t->entry_count * sizeof *t->entries + t->rule_count * sizeof *t->rules + t->policy_count * sizeof *t->policies;
 }
 
 bool anchor_sound(const uint8_t *table, size_t table_len, struct anchor_table *t)

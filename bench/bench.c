@@ -53,14 +53,16 @@ static uint64_t nothing_offered(struct kawsarpa_loss_row *lent, size_t count, ui
     return 0;
 }
 
-static uint64_t anchor_soundness(const uint8_t *packet, size_t packet_len, const uint8_t *octets, size_t octets_len, uint8_t *to, size_t to_len)
+static uint64_t anchor_soundness(const uint8_t *packet, size_t packet_len, const uint8_t *octets, size_t octets_len, uint8_t *to,
+                                 size_t to_len)
 {
     struct anchor_table records;
     (void)packet, (void)packet_len, (void)to, (void)to_len;
     return anchor_sound(octets, octets_len, &records) ? 0 : 1;
 }
 
-static uint64_t library_soundness(const uint8_t *packet, size_t packet_len, const uint8_t *octets, size_t octets_len, uint8_t *to, size_t to_len)
+static uint64_t library_soundness(const uint8_t *packet, size_t packet_len, const uint8_t *octets, size_t octets_len, uint8_t *to,
+                                  size_t to_len)
 {
     (void)packet, (void)packet_len, (void)to, (void)to_len;
     return kawsarpa_table_fault(octets, octets_len);
@@ -144,7 +146,8 @@ static void measure(int count, const char *where, const struct load *l, call *co
 /* A kind with packets of a size and one of its tables: the same packet again and again, then the ring. */
 static void measure_case(int count, const struct kind *kind, size_t size, unsigned int which)
 {
-    call *const subjects[SUBJECTS_MOST] = {copy, kind->ipv4 ? bare_ipv4 : bare_ipv6, kind->ipv4 ? anchor_translate_ipv4 : anchor_translate_ipv6,
+    call *const subjects[SUBJECTS_MOST] = {copy, kind->ipv4 ? bare_ipv4 : bare_ipv6,
+                                           kind->ipv4 ? anchor_translate_ipv4 : anchor_translate_ipv6,
                                            kind->ipv4 ? kawsarpa_translate_ipv4 : kawsarpa_translate_ipv6};
     call *const with_table[3] = {copy, subjects[2], subjects[3]};
     const char *const with_table_names[3] = {names[0], names[2], names[3]};

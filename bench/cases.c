@@ -189,11 +189,8 @@ void make_numbered(bool ipv4, uint8_t *packet, size_t size)
 }
 
 const struct arrival arrivals[] = {
-    {"new", ROW_OF_TEID, 1, 1},
-    {"repeated", ROW_OF_TEID, 0, 0},
-    {"late", ROW_OF_TEID, -1, 0},
-    {"row taken", ROW_FREE, 0, 0},
-    {"no row free", ROW_OF_ANOTHER, 0, 0},
+    {"new", ROW_OF_TEID, 1, 1},    {"repeated", ROW_OF_TEID, 0, 0},       {"late", ROW_OF_TEID, -1, 0},
+    {"row taken", ROW_FREE, 0, 0}, {"no row free", ROW_OF_ANOTHER, 0, 0},
 };
 const unsigned int arrival_count = sizeof arrivals / sizeof arrivals[0];
 

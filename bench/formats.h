@@ -5,15 +5,15 @@
 #include "kawsarpa.h"
 #include "words.h"
 
-enum {
-    IPV6_SIZE = 40, IPV4_SIZE = 20, UDP_SIZE = 8, SRH_SIZE = 8, ADDRESS = 16, ARGS_SIZE = 5,
-    GTPU_SIZE = 8, GTPU_LONG_SIZE = 12, /* without and with the four octets more */
-    DATAGRAM_SIZE = 24,                 /* UDP, GTP-U and a container of one unit */
-    HOP_BY_HOP = 0, IPV4 = 4, UDP = 17, IPV6 = 41, ROUTING = 43, FRAGMENT = 44, DESTINATION_OPTIONS = 60, ETHERNET = 143,
-    ROUTING_TYPE_SRH = 4, GTPU_PORT = 2152, G_PDU = 255, PDU_SESSION_CONTAINER = 0x85, LENGTH_MOST = 65535
-};
+enum { IPV6_SIZE = 40, IPV4_SIZE = 20, UDP_SIZE = 8, SRH_SIZE = 8, ADDRESS = 16, ARGS_SIZE = 5 };
+/* GTP-U without and with the four octets more; UDP, GTP-U and a container of one unit. */
+enum { GTPU_SIZE = 8, GTPU_LONG_SIZE = 12, DATAGRAM_SIZE = 24 };
+/* Next headers. */
+enum { HOP_BY_HOP = 0, IPV4 = 4, UDP = 17, IPV6 = 41, ROUTING = 43, FRAGMENT = 44, DESTINATION_OPTIONS = 60, ETHERNET = 143 };
+enum { ROUTING_TYPE_SRH = 4, GTPU_PORT = 2152, G_PDU = 255, PDU_SESSION_CONTAINER = 0x85, LENGTH_MOST = 65535 };
 
-static inline void put_ipv6(uint8_t *out, uint8_t class, size_t payload, uint8_t next, uint8_t hop_limit, const uint8_t *source, const uint8_t *to)
+static inline void put_ipv6(uint8_t *out, uint8_t class, size_t payload, uint8_t next, uint8_t hop_limit, const uint8_t *source,
+                            const uint8_t *to)
 {
     put16(out, (uint16_t)(0x6000 | class << 4));
     put16(out + 2, 0);
@@ -44,7 +44,8 @@ static inline void put_reversed(uint8_t *segments, const uint8_t addresses[][ADD
 /* UDP, GTP-U and the container before an inner packet. `args` are 5 octets of an arriving address. */
 static inline void put_datagram(uint8_t *udp, const struct kawsarpa_entry *e, const uint8_t *args, size_t inner)
 {
-    static const uint8_t fixed[DATAGRAM_SIZE] = {[2] = GTPU_PORT >> 8, GTPU_PORT & 0xFF, [8] = 0x34, G_PDU, [19] = PDU_SESSION_CONTAINER, 1};
+    static const uint8_t fixed[DATAGRAM_SIZE] = {
+        [2] = GTPU_PORT >> 8, GTPU_PORT & 0xFF, [8] = 0x34, G_PDU, [19] = PDU_SESSION_CONTAINER, 1};
     const uint8_t reflective = e->direction == KAWSARPA_DIRECTION_DOWNLINK ? (uint8_t)(args[0] << 5 & 0x40) : 0;
     memcpy(udp, fixed, sizeof fixed);
     memcpy(udp, e->source_port, 2);

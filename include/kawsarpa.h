@@ -72,14 +72,13 @@
 extern "C" {
 #endif
 
-uint64_t kawsarpa_translate_ipv6(const uint8_t *packet, size_t packet_len, const uint8_t *table, size_t table_len,
-                                 uint8_t *out, size_t out_len);
+uint64_t kawsarpa_translate_ipv6(const uint8_t *packet, size_t packet_len, const uint8_t *table, size_t table_len, uint8_t *out,
+                                 size_t out_len);
 
-uint64_t kawsarpa_translate_ipv4(const uint8_t *packet, size_t packet_len, const uint8_t *table, size_t table_len,
-                                 uint8_t *out, size_t out_len);
+uint64_t kawsarpa_translate_ipv4(const uint8_t *packet, size_t packet_len, const uint8_t *table, size_t table_len, uint8_t *out,
+                                 size_t out_len);
 
-uint64_t kawsarpa_waypoint(const uint8_t *packet, size_t packet_len, const uint8_t *table, size_t table_len,
-                           uint8_t *out, size_t out_len);
+uint64_t kawsarpa_waypoint(const uint8_t *packet, size_t packet_len, const uint8_t *table, size_t table_len, uint8_t *out, size_t out_len);
 
 uint64_t kawsarpa_table_fault(const uint8_t *table, size_t table_len);
 
@@ -119,8 +118,8 @@ static inline int kawsarpa_apart(const uint8_t *one, size_t one_len, const uint8
  * neither the packet nor the table; with NDEBUG defined that costs nothing.
  */
 
-static inline uint64_t kawsarpa_call_ipv6(const uint8_t *packet, size_t packet_len, const uint8_t *table, size_t table_len,
-                                          uint8_t *out, size_t out_len)
+static inline uint64_t kawsarpa_call_ipv6(const uint8_t *packet, size_t packet_len, const uint8_t *table, size_t table_len, uint8_t *out,
+                                          size_t out_len)
 {
     uint8_t none = 0;
     assert(kawsarpa_apart(out, out_len, packet, packet_len));
@@ -129,8 +128,8 @@ static inline uint64_t kawsarpa_call_ipv6(const uint8_t *packet, size_t packet_l
                                    out_len == 0 ? &none : out, out_len);
 }
 
-static inline uint64_t kawsarpa_call_ipv4(const uint8_t *packet, size_t packet_len, const uint8_t *table, size_t table_len,
-                                          uint8_t *out, size_t out_len)
+static inline uint64_t kawsarpa_call_ipv4(const uint8_t *packet, size_t packet_len, const uint8_t *table, size_t table_len, uint8_t *out,
+                                          size_t out_len)
 {
     uint8_t none = 0;
     assert(kawsarpa_apart(out, out_len, packet, packet_len));
@@ -242,11 +241,13 @@ enum {
 /* A short name for an answer number; "unknown" for a number that is not in the list. */
 static inline const char *kawsarpa_answer_name(unsigned int number)
 {
+    /* clang-format off */
     static const char *const names[] = {
         "sent", "table not sound", "malformed packet", "bad IPv4 header", "no match", "bad header chain", "hop limit exceeded",
         "bad segments left", "bad upper layer", "bad UDP", "bad GTP-U", "not a G-PDU", "bad extensions", "bad container",
         "bad inner packet", "too long", "no room", 0, 0, 0, 0, 0, 0, 0, 0, "no row free", "row full"
     };
+    /* clang-format on */
     return number < sizeof names / sizeof names[0] && names[number] != 0 ? names[number] : "unknown";
 }
 
@@ -287,6 +288,7 @@ enum {
  * One TEID. The row is free where seen is 0, whatever else stands there. In every row that is used, on rows that were all free at
  * the start: seen = new + repeated + late, and first + new - 1 + lost is highest mod 65,536.
  */
+/* clang-format off */
 struct kawsarpa_loss_row {
     uint32_t teid;
     uint16_t first;    /* the number with which the row began */
@@ -301,6 +303,7 @@ struct kawsarpa_loss_row {
     uint32_t late;     /* distance -1 to -32,768 */
     uint64_t lost;     /* numbers passed over: distance less one of every new packet. A late packet takes nothing from it */
 };
+/* clang-format on */
 
 #ifdef __cplusplus
 extern "C" {
@@ -495,7 +498,7 @@ static inline const char *kawsarpa_fault_name(uint64_t fault)
          "rule: unknown session type", "rule: p over 7", "rule: q over 12", "rule: bits past 8p of the SID prefix",
          "rule: bits past 8q of the source prefix", "rule: over 7 waypoints", "rule: reserved octet not 0",
          "rule: prefix of an earlier rule"},
-        {"policy: not 1 to 8 SIDs", "policy: bad start of Args", "policy: reserved octet not 0"}
+        {"policy: not 1 to 8 SIDs", "policy: bad start of Args", "policy: reserved octet not 0"},
     };
     unsigned int condition = kawsarpa_fault_condition(fault);
     unsigned int record = kawsarpa_fault_record(fault);
@@ -607,14 +610,27 @@ static inline uint16_t kawsarpa_mismatch_index(uint64_t mismatch)
 static inline const char *kawsarpa_mismatch_name(uint64_t mismatch)
 {
     static const char *const names[] = {
-        "fits", "near table not sound", "far table not sound", "no such near entry or rule", "near entry is not Di",
-        "no far entry is reached", "far entry of another kind", "directions differ", "session types differ", "starts of Args differ",
-        "p differs", "q differs", "hop limit not above the number of waypoints", "waypoint table not sound",
-        "SID not of 16 octets", "no entry matches the waypoint", "matched entry is no waypoint"
+        "fits",
+        "near table not sound",
+        "far table not sound",
+        "no such near entry or rule",
+        "near entry is not Di",
+        "no far entry is reached",
+        "far entry of another kind",
+        "directions differ",
+        "session types differ",
+        "starts of Args differ",
+        "p differs",
+        "q differs",
+        "hop limit not above the number of waypoints",
+        "waypoint table not sound",
+        "SID not of 16 octets",
+        "no entry matches the waypoint",
+        "matched entry is no waypoint",
     };
     unsigned int condition = kawsarpa_mismatch_condition(mismatch);
     return mismatch >> 32 == 0 && condition < sizeof names / sizeof names[0] && (condition != 0 || mismatch == 0) ? names[condition]
-                                                                                                                 : "unknown";
+                                                                                                                  : "unknown";
 }
 
 /* The same calls, for a caller whose pointer may be null where the count is 0. */
@@ -731,11 +747,11 @@ enum {
 
 struct kawsarpa_table_header {
     uint8_t format;      /* KAWSARPA_FORMAT */
-    uint8_t spare1;
+    uint8_t spare1;      /* never examined */
     uint8_t entries[2];  /* at most KAWSARPA_ENTRIES_MAX */
     uint8_t rules[2];    /* at most KAWSARPA_RULES_MAX */
     uint8_t policies[2]; /* at most KAWSARPA_POLICIES_MAX */
-    uint8_t spare8[8];
+    uint8_t spare8[8];   /* never examined */
 };
 
 /* A SID entry. */
@@ -749,12 +765,12 @@ struct kawsarpa_entry {
     uint8_t args_start;     /* E6: the bit of the destination at which Args begin, 8a with a from 0 to 11 */
     uint8_t p;              /* E4: octets of the destination before the IPv4 destination, 0 to 7 */
     uint8_t q;              /* E4: octets of the source before the IPv4 source, 0 to 12 */
-    uint8_t reserved;
+    uint8_t reserved;       /* 0 */
     uint8_t source_port[2]; /* E6, E4: UDP source port of what is sent */
-    uint8_t spare12[4];
-    uint8_t prefix[16];
+    uint8_t spare12[4];     /* never examined */
+    uint8_t prefix[16];     /* bits past prefix_length are 0 */
     uint8_t source[16];     /* D, Di, E6: source address of what is sent */
-    uint8_t spare48[16];
+    uint8_t spare48[16];    /* never examined */
 };
 
 /* An IPv4 rule. */
@@ -766,9 +782,9 @@ struct kawsarpa_rule {
     uint8_t p;                 /* octets of sid_prefix, 0 to 7 */
     uint8_t q;                 /* octets of source_prefix, 0 to 12 */
     uint8_t waypoint_count;    /* 0 to KAWSARPA_WAYPOINTS_MAX */
-    uint8_t reserved;
-    uint8_t prefix[4];
-    uint8_t spare12[4];
+    uint8_t reserved;          /* 0 */
+    uint8_t prefix[4];         /* bits past prefix_length are 0 */
+    uint8_t spare12[4];        /* never examined */
     uint8_t sid_prefix[16];    /* prefix of the SID that the rule builds; bits past 8p are 0 */
     uint8_t source_prefix[16]; /* prefix of the source address that it builds; bits past 8q are 0 */
     uint8_t waypoints[7][16];  /* in order of travel */
@@ -778,10 +794,10 @@ struct kawsarpa_rule {
 struct kawsarpa_policy {
     uint8_t sid_count;     /* 1 to KAWSARPA_SIDS_MAX */
     uint8_t args_start;    /* the bit of the last SID at which Args begin, 8a with a from 0 to 11 */
-    uint8_t reserved;
-    uint8_t spare3[13];
+    uint8_t reserved;      /* 0 */
+    uint8_t spare3[13];    /* never examined */
     uint8_t sids[8][16];   /* in order of travel */
-    uint8_t spare144[144];
+    uint8_t spare144[144]; /* never examined */
 };
 
 /* Sizes and offsets, in octets, of the records of a table and of a row. The compiler refuses any other: an array of -1 octets. */
@@ -853,8 +869,8 @@ KAWSARPA_AT(24, loss_row, lost);
  */
 static inline size_t kawsarpa_table_size(uint16_t entries, uint16_t rules, uint16_t policies)
 {
-    return sizeof(struct kawsarpa_table_header) + sizeof(struct kawsarpa_entry) * entries +
-           sizeof(struct kawsarpa_rule) * rules + sizeof(struct kawsarpa_policy) * policies;
+    return sizeof(struct kawsarpa_table_header) + sizeof(struct kawsarpa_entry) * entries + sizeof(struct kawsarpa_rule) * rules +
+           sizeof(struct kawsarpa_policy) * policies;
 }
 
 /* Writes a number into two octets, big-endian. */
@@ -871,8 +887,7 @@ static inline uint16_t kawsarpa_get16(const uint8_t *octets)
 }
 
 /* Writes the whole header: the format, the counts, and 0 into the spare octets. */
-static inline void kawsarpa_table_header_set(struct kawsarpa_table_header *header, uint16_t entries, uint16_t rules,
-                                             uint16_t policies)
+static inline void kawsarpa_table_header_set(struct kawsarpa_table_header *header, uint16_t entries, uint16_t rules, uint16_t policies)
 {
     size_t i;
     header->format = KAWSARPA_FORMAT;
@@ -962,11 +977,9 @@ static inline uint64_t kawsarpa_table_sort(uint8_t *table, size_t table_len)
     entries = kawsarpa_get16(table + offsetof(struct kawsarpa_table_header, entries));
     rules = kawsarpa_get16(table + offsetof(struct kawsarpa_table_header, rules));
     kawsarpa_records_sort(table + kawsarpa_table_size(0, 0, 0), entries, sizeof(struct kawsarpa_entry),
-                          offsetof(struct kawsarpa_entry, prefix), 16,
-                          offsetof(struct kawsarpa_entry, prefix_length));
+                          offsetof(struct kawsarpa_entry, prefix), 16, offsetof(struct kawsarpa_entry, prefix_length));
     kawsarpa_records_sort(table + kawsarpa_table_size(entries, 0, 0), rules, sizeof(struct kawsarpa_rule),
-                          offsetof(struct kawsarpa_rule, prefix), 4,
-                          offsetof(struct kawsarpa_rule, prefix_length));
+                          offsetof(struct kawsarpa_rule, prefix), 4, offsetof(struct kawsarpa_rule, prefix_length));
     return 0;
 }
 

@@ -39,15 +39,15 @@ static int filled(size_t from, size_t to)
     return 1;
 }
 
-static void check_answer(uint64_t answer, unsigned int number, unsigned int type, unsigned int code, unsigned int pointer,
-                         size_t length, const char *subject)
+static void check_answer(uint64_t answer, unsigned int number, unsigned int type, unsigned int code, unsigned int pointer, size_t length,
+                         const char *subject)
 {
     char claim[160];
     int holds = kawsarpa_answer_number(answer) == number && kawsarpa_answer_icmp_type(answer) == type &&
                 kawsarpa_answer_icmp_code(answer) == code && kawsarpa_answer_icmp_pointer(answer) == pointer &&
                 kawsarpa_answer_length(answer) == length;
-    int written = snprintf(claim, sizeof claim, "answer %u (%s), ICMP %u %u %u, length %u", number,
-                           kawsarpa_answer_name(number), type, code, pointer, (unsigned int)length);
+    int written = snprintf(claim, sizeof claim, "answer %u (%s), ICMP %u %u %u, length %u", number, kawsarpa_answer_name(number), type,
+                           code, pointer, (unsigned int)length);
     if (!holds && written > 0 && (size_t)written < sizeof claim)
         snprintf(claim + written, sizeof claim - (size_t)written, "; got %u, ICMP %u %u %u, length %u",
                  (unsigned int)kawsarpa_answer_number(answer), (unsigned int)kawsarpa_answer_icmp_type(answer),
@@ -64,14 +64,12 @@ static void check_octets(const uint8_t *expected, size_t expected_len, const cha
     while (i < expected_len && out[i] == expected[i])
         i++;
     if (i < expected_len)
-        snprintf(claim, sizeof claim, "octet %u is %02X; got %02X", (unsigned int)i, (unsigned int)expected[i],
-                 (unsigned int)out[i]);
+        snprintf(claim, sizeof claim, "octet %u is %02X; got %02X", (unsigned int)i, (unsigned int)expected[i], (unsigned int)out[i]);
     check(i == expected_len, subject, claim);
 }
 
-static void refused_in(size_t room, call_function *call, const uint8_t *packet, size_t packet_len, const void *table,
-                       size_t table_len, unsigned int number, unsigned int type, unsigned int code, unsigned int pointer,
-                       const char *subject)
+static void refused_in(size_t room, call_function *call, const uint8_t *packet, size_t packet_len, const void *table, size_t table_len,
+                       unsigned int number, unsigned int type, unsigned int code, unsigned int pointer, const char *subject)
 {
     uint64_t answer;
     fill();
@@ -80,15 +78,14 @@ static void refused_in(size_t room, call_function *call, const uint8_t *packet, 
     check(filled(0, BUFFER), subject, "no octet of the output is changed");
 }
 
-static void refused(call_function *call, const uint8_t *packet, size_t packet_len, const void *table, size_t table_len,
-                    unsigned int number, const char *subject)
+static void refused(call_function *call, const uint8_t *packet, size_t packet_len, const void *table, size_t table_len, unsigned int number,
+                    const char *subject)
 {
     refused_in(ROOM, call, packet, packet_len, table, table_len, number, 0, 0, 0, subject);
 }
 
-static void refused_with_icmp(call_function *call, const uint8_t *packet, size_t packet_len, const struct table *table,
-                              unsigned int number, unsigned int type, unsigned int code, unsigned int pointer,
-                              const char *subject)
+static void refused_with_icmp(call_function *call, const uint8_t *packet, size_t packet_len, const struct table *table, unsigned int number,
+                              unsigned int type, unsigned int code, unsigned int pointer, const char *subject)
 {
     refused_in(ROOM, call, packet, packet_len, table, sizeof *table, number, type, code, pointer, subject);
 }
@@ -105,8 +102,8 @@ static void sent_in(size_t room, call_function *call, const uint8_t *packet, siz
 }
 
 /* Sent with more room than is needed; refused with one octet too few; sent with just enough, which is what the buffer then holds. */
-static void sent(call_function *call, const uint8_t *packet, size_t packet_len, const struct table *table,
-                 const uint8_t *expected, size_t expected_len, const char *subject)
+static void sent(call_function *call, const uint8_t *packet, size_t packet_len, const struct table *table, const uint8_t *expected,
+                 size_t expected_len, const char *subject)
 {
     char with_room[80];
     sent_in(ROOM, call, packet, packet_len, table, expected, expected_len, subject);
@@ -161,7 +158,8 @@ static void check_header(const struct table *table)
         /* the policy */
         {496, 2, {0x02, 0x40}},
         {512, 8, {0x20, 0x01, 0x0D, 0xB8, 0x00, 0x0A, 0x00, 0x01}},
-        {528, 16, {0x20, 0x01, 0x0D, 0xB8, 0x00, 0x0B, 0x00, 0x01, 0xFF, 0xFF, 0xFF, 0xFF, 0xFF, 0x00, 0x00, 0x5A}}};
+        {528, 16, {0x20, 0x01, 0x0D, 0xB8, 0x00, 0x0B, 0x00, 0x01, 0xFF, 0xFF, 0xFF, 0xFF, 0xFF, 0x00, 0x00, 0x5A}},
+    };
     const uint64_t answer = (uint64_t)65575 << 40 | (uint64_t)0x2B28 << 24 | 0x040308;
     uint8_t octets[784];
     struct kawsarpa_entry entry;
@@ -178,8 +176,7 @@ static void check_header(const struct table *table)
     check(kawsarpa_table_size(0, 0, 0) == 16 && kawsarpa_table_size(ENTRIES, 1, 1) == sizeof *table &&
               kawsarpa_table_size(KAWSARPA_ENTRIES_MAX, KAWSARPA_RULES_MAX, KAWSARPA_POLICIES_MAX) == 11280,
           "kawsarpa_table_size", "16, 784 and 11,280 octets");
-    check(kawsarpa_table_size(E4, 0, 0) == 272 && kawsarpa_table_size(ENTRIES, 0, 0) == 336 &&
-              kawsarpa_table_size(ENTRIES, 1, 0) == 496,
+    check(kawsarpa_table_size(E4, 0, 0) == 272 && kawsarpa_table_size(ENTRIES, 0, 0) == 336 && kawsarpa_table_size(ENTRIES, 1, 0) == 496,
           "kawsarpa_table_size", "records stand at 272, 336 and 496");
 
     kawsarpa_entry_set_args_start_octets(&entry, 11);
@@ -192,9 +189,8 @@ static void check_header(const struct table *table)
     kawsarpa_policy_set_args_start_bits(&policy, 256 + 64);
     check(entry.args_start == 255 && policy.args_start == 255, "start of Args", "what an octet cannot hold is 255");
 
-    check(kawsarpa_answer_number(answer) == 8 && kawsarpa_answer_icmp_type(answer) == 3 &&
-              kawsarpa_answer_icmp_code(answer) == 4 && kawsarpa_answer_icmp_pointer(answer) == 0x2B28 &&
-              kawsarpa_answer_length(answer) == 65575,
+    check(kawsarpa_answer_number(answer) == 8 && kawsarpa_answer_icmp_type(answer) == 3 && kawsarpa_answer_icmp_code(answer) == 4 &&
+              kawsarpa_answer_icmp_pointer(answer) == 0x2B28 && kawsarpa_answer_length(answer) == 65575,
           "readers of an answer", "each reads its own bits");
 
     for (i = 0; i <= 256; i++) {
@@ -231,10 +227,8 @@ static void check_trip_ipv4(const struct table *table)
 
     direct.rules[0].waypoint_count = 0;
     memset(direct.rules[0].waypoints, 0, sizeof direct.rules[0].waypoints);
-    sent(kawsarpa_translate_ipv4, to_d4, sizeof to_d4, &direct, from_d4_directly, sizeof from_d4_directly,
-         "D4 without waypoints");
-    sent(kawsarpa_translate_ipv6, carry(), sizeof from_d4_directly, &direct, from_e4, sizeof from_e4,
-         "D4 without waypoints, E4");
+    sent(kawsarpa_translate_ipv4, to_d4, sizeof to_d4, &direct, from_d4_directly, sizeof from_d4_directly, "D4 without waypoints");
+    sent(kawsarpa_translate_ipv6, carry(), sizeof from_d4_directly, &direct, from_e4, sizeof from_e4, "D4 without waypoints, E4");
 }
 
 static void check_d(const struct table *table)
@@ -253,43 +247,37 @@ static void check_refusals(const struct table *table)
     refused(kawsarpa_translate_ipv6, to_d, 0, table, sizeof *table, KAWSARPA_ANSWER_MALFORMED, "empty packet");
     refused(kawsarpa_translate_ipv4, to_d4, 0, table, sizeof *table, KAWSARPA_ANSWER_MALFORMED, "empty packet over IPv4");
     refused(kawsarpa_translate_ipv6, to_d, 39, table, sizeof *table, KAWSARPA_ANSWER_MALFORMED, "39 octets");
-    refused(kawsarpa_translate_ipv6, to_d4, sizeof to_d4, table, sizeof *table, KAWSARPA_ANSWER_MALFORMED,
-            "IPv4 packet in the IPv6 call");
+    refused(kawsarpa_translate_ipv6, to_d4, sizeof to_d4, table, sizeof *table, KAWSARPA_ANSWER_MALFORMED, "IPv4 packet in the IPv6 call");
 
     memcpy(packet, to_d4, sizeof to_d4);
     packet[11] ^= 1;
-    refused(kawsarpa_translate_ipv4, packet, sizeof to_d4, table, sizeof *table, KAWSARPA_ANSWER_BAD_HEADER4,
-            "wrong IPv4 checksum");
+    refused(kawsarpa_translate_ipv4, packet, sizeof to_d4, table, sizeof *table, KAWSARPA_ANSWER_BAD_HEADER4, "wrong IPv4 checksum");
 
     refused(kawsarpa_translate_ipv6, to_d, sizeof to_d, &empty, sizeof empty, KAWSARPA_ANSWER_NO_MATCH, "empty table");
-    refused(kawsarpa_translate_ipv4, to_d4, sizeof to_d4, &empty, sizeof empty, KAWSARPA_ANSWER_NO_MATCH,
-            "empty table over IPv4");
-    refused(kawsarpa_waypoint, from_di, sizeof from_di, &empty, sizeof empty, KAWSARPA_ANSWER_NO_MATCH,
-            "empty table at a waypoint");
+    refused(kawsarpa_translate_ipv4, to_d4, sizeof to_d4, &empty, sizeof empty, KAWSARPA_ANSWER_NO_MATCH, "empty table over IPv4");
+    refused(kawsarpa_waypoint, from_di, sizeof from_di, &empty, sizeof empty, KAWSARPA_ANSWER_NO_MATCH, "empty table at a waypoint");
 
     memcpy(packet, from_di, sizeof from_di);
     packet[7] = 1;
-    refused_with_icmp(kawsarpa_waypoint, packet, sizeof from_di, table, KAWSARPA_ANSWER_HOP_LIMIT,
-                      KAWSARPA_ICMP_TIME_EXCEEDED, 0, 0, "hop limit 1 at a waypoint");
+    refused_with_icmp(kawsarpa_waypoint, packet, sizeof from_di, table, KAWSARPA_ANSWER_HOP_LIMIT, KAWSARPA_ICMP_TIME_EXCEEDED, 0, 0,
+                      "hop limit 1 at a waypoint");
     memcpy(packet, to_e6, sizeof to_e6);
     packet[43] = 2;
-    refused_with_icmp(kawsarpa_translate_ipv6, packet, sizeof to_e6, table, KAWSARPA_ANSWER_SEGMENTS_LEFT,
-                      KAWSARPA_ICMP_PARAMETER_PROBLEM, 0, 43, "SL 2 at E6");
+    refused_with_icmp(kawsarpa_translate_ipv6, packet, sizeof to_e6, table, KAWSARPA_ANSWER_SEGMENTS_LEFT, KAWSARPA_ICMP_PARAMETER_PROBLEM,
+                      0, 43, "SL 2 at E6");
     refused_with_icmp(kawsarpa_translate_ipv6, nothing_for_d, sizeof nothing_for_d, table, KAWSARPA_ANSWER_UPPER_LAYER,
                       KAWSARPA_ICMP_PARAMETER_PROBLEM, 4, 40, "40 octets with next header 59 at D");
 
     memcpy(packet, to_d4, sizeof to_d4);
     packet[23] ^= 1;
-    refused(kawsarpa_translate_ipv4, packet, sizeof to_d4, table, sizeof *table, KAWSARPA_ANSWER_UPPER_LAYER,
-            "UDP port 2153 at D4");
+    refused(kawsarpa_translate_ipv4, packet, sizeof to_d4, table, sizeof *table, KAWSARPA_ANSWER_UPPER_LAYER, "UDP port 2153 at D4");
     memcpy(packet, to_di, sizeof to_di);
     packet[61] = 0x1F;
     refused(kawsarpa_translate_ipv6, packet, sizeof to_di, table, sizeof *table, KAWSARPA_ANSWER_BAD_CONTAINER,
             "uplink container at a Di entry for downlink");
 
     refused(kawsarpa_translate_ipv6, to_d, sizeof to_d, table, 0, KAWSARPA_ANSWER_UNSOUND, "table of 0 octets");
-    refused(kawsarpa_translate_ipv6, to_d, sizeof to_d, table, sizeof *table - 1, KAWSARPA_ANSWER_UNSOUND,
-            "table one octet short");
+    refused(kawsarpa_translate_ipv6, to_d, sizeof to_d, table, sizeof *table - 1, KAWSARPA_ANSWER_UNSOUND, "table one octet short");
     unsound = *table;
     unsound.header.format = 2;
     refused(kawsarpa_translate_ipv6, to_d, sizeof to_d, &unsound, sizeof unsound, KAWSARPA_ANSWER_UNSOUND, "format 2");
@@ -303,8 +291,7 @@ static void check_refusals(const struct table *table)
             "hop limit 0 in an entry, over IPv4");
     unsound = *table;
     kawsarpa_entry_set_args_start_bits(&unsound.entries[E6], 68);
-    refused(kawsarpa_translate_ipv6, to_d, 0, &unsound, sizeof unsound, KAWSARPA_ANSWER_UNSOUND,
-            "start of Args at bit 68, empty packet");
+    refused(kawsarpa_translate_ipv6, to_d, 0, &unsound, sizeof unsound, KAWSARPA_ANSWER_UNSOUND, "start of Args at bit 68, empty packet");
 }
 
 /* The wrappers: the same as the calls, and NULL where the count is 0. */
@@ -323,16 +310,14 @@ static void check_wrappers(const struct table *table)
     refused(kawsarpa_call_ipv4, to_d4, sizeof to_d4, NULL, 0, KAWSARPA_ANSWER_UNSOUND, "NULL table over IPv4");
     refused(kawsarpa_call_waypoint, from_di, sizeof from_di, NULL, 0, KAWSARPA_ANSWER_UNSOUND, "NULL table at a waypoint");
 
-    check_answer(kawsarpa_call_ipv6(to_d, sizeof to_d, octets, sizeof *table, NULL, 0), KAWSARPA_ANSWER_NO_ROOM, 0, 0, 0, 0,
-                 "NULL output");
+    check_answer(kawsarpa_call_ipv6(to_d, sizeof to_d, octets, sizeof *table, NULL, 0), KAWSARPA_ANSWER_NO_ROOM, 0, 0, 0, 0, "NULL output");
     check_answer(kawsarpa_call_ipv4(to_d4, sizeof to_d4, octets, sizeof *table, NULL, 0), KAWSARPA_ANSWER_NO_ROOM, 0, 0, 0, 0,
                  "NULL output over IPv4");
-    check_answer(kawsarpa_call_waypoint(from_di, sizeof from_di, octets, sizeof *table, NULL, 0), KAWSARPA_ANSWER_NO_ROOM, 0,
-                 0, 0, 0, "NULL output at a waypoint");
+    check_answer(kawsarpa_call_waypoint(from_di, sizeof from_di, octets, sizeof *table, NULL, 0), KAWSARPA_ANSWER_NO_ROOM, 0, 0, 0, 0,
+                 "NULL output at a waypoint");
     check_answer(kawsarpa_call_ipv6(NULL, 0, NULL, 0, NULL, 0), KAWSARPA_ANSWER_UNSOUND, 0, 0, 0, 0, "all NULL");
     check_answer(kawsarpa_call_ipv4(NULL, 0, NULL, 0, NULL, 0), KAWSARPA_ANSWER_UNSOUND, 0, 0, 0, 0, "all NULL over IPv4");
-    check_answer(kawsarpa_call_waypoint(NULL, 0, NULL, 0, NULL, 0), KAWSARPA_ANSWER_UNSOUND, 0, 0, 0, 0,
-                 "all NULL at a waypoint");
+    check_answer(kawsarpa_call_waypoint(NULL, 0, NULL, 0, NULL, 0), KAWSARPA_ANSWER_UNSOUND, 0, 0, 0, 0, "all NULL at a waypoint");
 }
 
 int main(void)

@@ -11,7 +11,9 @@ top=$(cd "$(dirname "$0")/../.." && pwd)
 work=$(mktemp -d)
 trap 'rm -rf "$work"' EXIT
 
+# shellcheck disable=SC2016 # the backticks are README.md's
 sed -n '/^```c$/,/^```$/{/^```/d;p}' "$top/README.md" >"$work/example.c"
+# shellcheck disable=SC2016 # the same
 expected=$(sed -n 's/^It prints `\(.*\)`\.$/\1/p' "$top/README.md")
 gcc -std=c99 -Werror -Wall -Wextra -Wpedantic -Wconversion -I "$top/include" -o "$work/example" "$work/example.c" "$lib"
 printed=$("$work/example")

@@ -38,8 +38,7 @@ static void faulty(const void *table, size_t table_len, unsigned int record, uns
     const uint8_t *octets = (const uint8_t *)table;
     uint64_t fault = kawsarpa_table_fault(octets, table_len);
     uint8_t packet = 0, out = 0;
-    int unsound = kawsarpa_answer_number(kawsarpa_translate_ipv6(&packet, 0, octets, table_len, &out, 0)) ==
-                  KAWSARPA_ANSWER_UNSOUND;
+    int unsound = kawsarpa_answer_number(kawsarpa_translate_ipv6(&packet, 0, octets, table_len, &out, 0)) == KAWSARPA_ANSWER_UNSOUND;
     char claim[160];
     snprintf(claim, sizeof claim, "fault %u of record %u, index %u; got %u, %u, %u (%s)", condition, record, index,
              (unsigned int)kawsarpa_fault_condition(fault), (unsigned int)kawsarpa_fault_record(fault),
@@ -56,11 +55,11 @@ static void faulty(const void *table, size_t table_len, unsigned int record, uns
         faulty(&t, sizeof t, KAWSARPA_RECORD_##record, index, KAWSARPA_FAULT_##record##_##condition, #changes); \
     } while (0)
 
-#define HARMLESS(changes)                         \
-    do {                                          \
-        struct twice t = sound;                   \
-        changes;                                  \
-        faulty(&t, sizeof t, 0, 0, 0, #changes);  \
+#define HARMLESS(changes)                        \
+    do {                                         \
+        struct twice t = sound;                  \
+        changes;                                 \
+        faulty(&t, sizeof t, 0, 0, 0, #changes); \
     } while (0)
 
 /* A table of so many waypoints, rules and policies, each sound and no two alike. */
@@ -192,8 +191,8 @@ static void check_order(void)
 
 static void check_names(void)
 {
-    static const unsigned int conditions[] = {0, KAWSARPA_FAULT_HEADER_SIZE, KAWSARPA_FAULT_ENTRY_REPEATED,
-                                              KAWSARPA_FAULT_RULE_REPEATED, KAWSARPA_FAULT_POLICY_RESERVED, 0};
+    static const unsigned int conditions[] = {
+        0, KAWSARPA_FAULT_HEADER_SIZE, KAWSARPA_FAULT_ENTRY_REPEATED, KAWSARPA_FAULT_RULE_REPEATED, KAWSARPA_FAULT_POLICY_RESERVED, 0};
     unsigned int record, condition;
     int named = 1;
     for (record = 0; record < sizeof conditions / sizeof conditions[0]; record++)

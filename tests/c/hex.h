@@ -6,7 +6,7 @@
 #include <stdlib.h>
 #include <string.h>
 
-/* The octets of a hexadecimal field into a buffer; "-" is an empty one. Returns their count, or -1 for what is no such field or too long. */
+/* The octets of a hexadecimal field into a buffer; "-" is an empty one. Gives their count, or -1 for what is no such field or too long. */
 static inline long hex_octets(const char *field, uint8_t *into, size_t most)
 {
     const size_t n = strlen(field) / 2;

@@ -104,8 +104,7 @@ static void sent(call_function *call, const struct table *table, size_t length, 
 
 static void too_long(call_function *call, const struct table *table, size_t length, const char *subject)
 {
-    check(kawsarpa_answer_number(call(packet, length, (const uint8_t *)table, sizeof *table, out, sizeof out)) ==
-              KAWSARPA_ANSWER_TOO_LONG,
+    check(kawsarpa_answer_number(call(packet, length, (const uint8_t *)table, sizeof *table, out, sizeof out)) == KAWSARPA_ANSWER_TOO_LONG,
           subject, "with one octet more, too long");
 }
 

@@ -24,8 +24,8 @@ static void reads(reader_function *reader, const uint8_t *packet, size_t packet_
 }
 
 /* The same for the packet with other octets from a place on. */
-static void reads_changed(reader_function *reader, const uint8_t *packet, size_t packet_len, size_t at, const uint8_t *octets,
-                          size_t count, uint64_t expected, const char *subject)
+static void reads_changed(reader_function *reader, const uint8_t *packet, size_t packet_len, size_t at, const uint8_t *octets, size_t count,
+                          uint64_t expected, const char *subject)
 {
     uint8_t changed[sizeof over_srh];
     memcpy(changed, packet, packet_len);
@@ -33,8 +33,7 @@ static void reads_changed(reader_function *reader, const uint8_t *packet, size_t
     reads(reader, changed, packet_len, expected, subject);
 }
 
-static void nothing_read(reader_function *reader, const uint8_t *packet, size_t packet_len, size_t at, uint8_t octet,
-                         const char *subject)
+static void nothing_read(reader_function *reader, const uint8_t *packet, size_t packet_len, size_t at, uint8_t octet, const char *subject)
 {
     reads_changed(reader, packet, packet_len, at, &octet, 1, 0, subject);
 }
@@ -110,8 +109,8 @@ static void check_parts(void)
     const uint64_t sequence = 0x0001A1B2C3D4E5F6, zeros = 0x0001000000000000;
     check(kawsarpa_sequence_teid(sequence) == 0xA1B2C3D4 && kawsarpa_sequence_number(sequence) == 0xE5F6, "parts of a sequence",
           "each reads its own bits");
-    check(kawsarpa_sequence_found(sequence) && kawsarpa_sequence_found(zeros) && !kawsarpa_sequence_found(0),
-          "kawsarpa_sequence_found", "all but 0, so TEID 0 with number 0 too");
+    check(kawsarpa_sequence_found(sequence) && kawsarpa_sequence_found(zeros) && !kawsarpa_sequence_found(0), "kawsarpa_sequence_found",
+          "all but 0, so TEID 0 with number 0 too");
     check(kawsarpa_sequence_teid(zeros) == 0 && kawsarpa_sequence_number(zeros) == 0, "parts of a sequence", "bit 48 is in neither");
 }
 
@@ -179,6 +178,7 @@ static void refused(uint32_t teid, uint16_t number, unsigned int answer, const c
 
 static void check_row(void)
 {
+    /* clang-format off */
     static const uint8_t octets[32] = {
         /* TEID 01020304, first 0506, highest 0708, all in the order of x86-64 */
         0x04, 0x03, 0x02, 0x01, 0x06, 0x05, 0x08, 0x07,
@@ -186,6 +186,7 @@ static void check_row(void)
         0x0C, 0x0B, 0x0A, 0x09, 0x10, 0x0F, 0x0E, 0x0D, 0x14, 0x13, 0x12, 0x11, 0x18, 0x17, 0x16, 0x15,
         /* lost */
         0x20, 0x1F, 0x1E, 0x1D, 0x1C, 0x1B, 0x1A, 0x19};
+    /* clang-format on */
     struct kawsarpa_loss_row by_name;
     by_name.teid = 0x01020304;
     by_name.first = 0x0506;

@@ -45,20 +45,18 @@ static void told(uint64_t mismatch, unsigned int condition, unsigned int record,
 #define OCTETS(table) ((const uint8_t *)&(table))
 
 /* The Di entry and the rule of `near` against `far`, which fit before the changes. */
-#define DI_TELLS(condition, record, index, changes)                                                                       \
-    do {                                                                                                                  \
-        struct table near = sound, far = sound;                                                                           \
-        changes;                                                                                                          \
-        told(kawsarpa_match_ipv6(OCTETS(near), sizeof near, DI, OCTETS(far), sizeof far), condition, record, index,       \
-             "Di: " #changes);                                                                                            \
+#define DI_TELLS(condition, record, index, changes)                                                                                   \
+    do {                                                                                                                              \
+        struct table near = sound, far = sound;                                                                                       \
+        changes;                                                                                                                      \
+        told(kawsarpa_match_ipv6(OCTETS(near), sizeof near, DI, OCTETS(far), sizeof far), condition, record, index, "Di: " #changes); \
     } while (0)
 
-#define RULE_TELLS(condition, record, index, changes)                                                                     \
-    do {                                                                                                                  \
-        struct table near = sound, far = sound;                                                                           \
-        changes;                                                                                                          \
-        told(kawsarpa_match_ipv4(OCTETS(near), sizeof near, 0, OCTETS(far), sizeof far), condition, record, index,        \
-             "rule: " #changes);                                                                                          \
+#define RULE_TELLS(condition, record, index, changes)                                                                                  \
+    do {                                                                                                                               \
+        struct table near = sound, far = sound;                                                                                        \
+        changes;                                                                                                                       \
+        told(kawsarpa_match_ipv4(OCTETS(near), sizeof near, 0, OCTETS(far), sizeof far), condition, record, index, "rule: " #changes); \
     } while (0)
 
 static void one_condition(const struct table sound)
@@ -90,14 +88,14 @@ static void one_condition(const struct table sound)
     RULE_TELLS(KAWSARPA_MISMATCH_HOP_LIMIT, entry, E4, near.rules[0].hop_limit = 1);
     RULE_TELLS(0, 0, 0, near.rules[0].hop_limit = 2);
 
-    told(kawsarpa_match_ipv6(OCTETS(near_far), sizeof near_far, ENTRIES, OCTETS(near_far), sizeof near_far),
-         KAWSARPA_MISMATCH_NO_RECORD, 0, 0, "an entry behind the last");
-    told(kawsarpa_match_ipv6(OCTETS(near_far), sizeof near_far, SIZE_MAX, OCTETS(near_far), sizeof near_far),
-         KAWSARPA_MISMATCH_NO_RECORD, 0, 0, "the largest index, an entry");
-    told(kawsarpa_match_ipv4(OCTETS(near_far), sizeof near_far, 1, OCTETS(near_far), sizeof near_far),
-         KAWSARPA_MISMATCH_NO_RECORD, 0, 0, "a rule behind the last");
-    told(kawsarpa_match_ipv4(OCTETS(near_far), sizeof near_far, SIZE_MAX, OCTETS(near_far), sizeof near_far),
-         KAWSARPA_MISMATCH_NO_RECORD, 0, 0, "the largest index, a rule");
+    told(kawsarpa_match_ipv6(OCTETS(near_far), sizeof near_far, ENTRIES, OCTETS(near_far), sizeof near_far), KAWSARPA_MISMATCH_NO_RECORD, 0,
+         0, "an entry behind the last");
+    told(kawsarpa_match_ipv6(OCTETS(near_far), sizeof near_far, SIZE_MAX, OCTETS(near_far), sizeof near_far), KAWSARPA_MISMATCH_NO_RECORD,
+         0, 0, "the largest index, an entry");
+    told(kawsarpa_match_ipv4(OCTETS(near_far), sizeof near_far, 1, OCTETS(near_far), sizeof near_far), KAWSARPA_MISMATCH_NO_RECORD, 0, 0,
+         "a rule behind the last");
+    told(kawsarpa_match_ipv4(OCTETS(near_far), sizeof near_far, SIZE_MAX, OCTETS(near_far), sizeof near_far), KAWSARPA_MISMATCH_NO_RECORD,
+         0, 0, "the largest index, a rule");
 }
 
 /* Each change breaks a condition behind the one that the change before it breaks: the first is told. */
@@ -220,8 +218,7 @@ static void whole(const struct table *near, const struct table *far, uint64_t co
                                                    &near_index);
     char claim[160];
     snprintf(claim, sizeof claim, "condition %u of near record %u, index %u; got %u, %u, %u", (unsigned int)condition, record,
-             (unsigned int)index, (unsigned int)kawsarpa_mismatch_condition(mismatch), (unsigned int)near_record,
-             (unsigned int)near_index);
+             (unsigned int)index, (unsigned int)kawsarpa_mismatch_condition(mismatch), (unsigned int)near_record, (unsigned int)near_index);
     check(kawsarpa_mismatch_condition(mismatch) == condition && near_record == record && near_index == index, subject, claim);
 }
 
@@ -247,8 +244,7 @@ static void whole_tables(const struct table sound)
     check(kawsarpa_match_table(OCTETS(empty), sizeof empty, OCTETS(empty), sizeof empty, &record, &index) == 0 && record == 0 && index == 0,
           "empty tables", "nothing that does not fit");
     record = 0xFF;
-    check(kawsarpa_match_table(NULL, 0, NULL, 0, &record, &index) == KAWSARPA_MISMATCH_NEAR_UNSOUND &&
-              record == KAWSARPA_RECORD_HEADER,
+    check(kawsarpa_match_table(NULL, 0, NULL, 0, &record, &index) == KAWSARPA_MISMATCH_NEAR_UNSOUND && record == KAWSARPA_RECORD_HEADER,
           "null pointers with a count of 0", "the near table is not sound");
 }
 

@@ -1,6 +1,7 @@
 /*
  * Packets for the readers of losses.c, written out by hand from TS 29.281, 5.1, and the IP headers around it. All but the last carry
- * TEID 01020304 and sequence number ABCD with S.
+ * TEID 01020304 and sequence number ABCD with S. Each line of octets is a header, an address or what follows, so clang-format leaves
+ * them alone.
  */
 #ifndef NUMBERED_H
 #define NUMBERED_H
@@ -12,6 +13,8 @@ enum { FLAGS = 0, MESSAGE_TYPE = 1, MESSAGE_LENGTH = 3, TEID = 4, NUMBER = 8 };
 
 /* Where the GTP-U header begins in the packets of these names. */
 enum { GTPU_OVER_IPV6 = 48, GTPU_OVER_SRH = 72, GTPU_OVER_IPV4 = 28 };
+
+/* clang-format off */
 
 static const uint8_t over_ipv6[66] = {
     /* IPv6: payload 26, UDP, hop limit 64 */
@@ -82,5 +85,7 @@ static const uint8_t without_number[56] = {
     0x20, 0x01, 0x0D, 0xB8, 0x00, 0xA0, 0x00, 0x00, 0x00, 0x00, 0x00, 0x00, 0x00, 0x00, 0x00, 0x01,
     0x04, 0xD2, 0x08, 0x68, 0x00, 0x10, 0xBE, 0xEF,
     0x32, 0xFF, 0x00, 0x00, 0x01, 0x02, 0x03, 0x04};
+
+/* clang-format on */
 
 #endif

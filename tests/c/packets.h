@@ -1,11 +1,13 @@
 /*
  * Packets that go into the calls of calls.c, and those that must come out: written out by hand from the gateway rules and the table
- * of table.h.
+ * of table.h. Each line of octets is a header, an address or what follows, so clang-format leaves them alone.
  */
 #ifndef PACKETS_H
 #define PACKETS_H
 
 #include <stdint.h>
+
+/* clang-format off */
 
 /* A trip over IPv6: flow 5 with the reflective bit goes in at Di, passes a waypoint and comes out of E6. */
 
@@ -160,5 +162,7 @@ static const uint8_t nothing_for_d[40] = {
     0x60, 0x00, 0x00, 0x00, 0x00, 0x00, 0x3B, 0x40,
     0x20, 0x01, 0x0D, 0xB8, 0x00, 0x0E, 0x00, 0x00, 0x00, 0x00, 0x00, 0x00, 0x00, 0x00, 0x00, 0x01,
     0x20, 0x01, 0x0D, 0xB8, 0x00, 0x01, 0x00, 0x00, 0x00, 0x00, 0x00, 0x00, 0x00, 0x00, 0x00, 0x01};
+
+/* clang-format on */
 
 #endif

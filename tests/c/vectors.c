@@ -72,8 +72,8 @@ static int try_case(char *fields[FIELDS])
                   : kawsarpa_call_ipv4(packet, (size_t)packet_len, table, (size_t)table_len, out, room);
     if (!equals(kawsarpa_answer_number(answer), fields[NUMBER]) || !equals(kawsarpa_answer_icmp_type(answer), fields[ICMP_TYPE]) ||
         !equals(kawsarpa_answer_icmp_code(answer), fields[ICMP_CODE]) ||
-        !equals(kawsarpa_answer_icmp_pointer(answer), fields[ICMP_POINTER]) ||
-        !equals(kawsarpa_answer_length(answer), fields[LENGTH]) || kawsarpa_answer_length(answer) != (size_t)length)
+        !equals(kawsarpa_answer_icmp_pointer(answer), fields[ICMP_POINTER]) || !equals(kawsarpa_answer_length(answer), fields[LENGTH]) ||
+        kawsarpa_answer_length(answer) != (size_t)length)
         return 0;
     if (memcmp(out, expected, (size_t)length) != 0 || !is_within_constants(answer, (size_t)packet_len, room))
         return 0;

@@ -49,7 +49,7 @@ make_copy() { # ARGUMENT...
 }
 
 # `make test` with all parts left out but the toolchain and `ci`.
-parts=(test-packages make-test format second refusers library programs boundary tool-test install-test)
+parts=(test-packages make-test format lint second refusers library programs boundary tool-test install-test)
 test_copy() { # VERSION LAST-LINE-OF-CI
     RT_VERSION=$1 RT_CI=$2 PATH=$work/bin:$PATH make_copy test "${parts[@]/#/--old-file=}"
 }
@@ -93,8 +93,8 @@ same "no toolchain" 1 "$(grep -c '^rt is not installed' "$work/output")"
 ### the quick tests are a part of the whole
 
 make_copy --dry-run check || fail "make --dry-run check fails"
-for command in "rt check kawsarpa" "rt staticlib kawsarpa" tests/make/run.sh tests/c/run.sh tests/c/example.sh tests/c/vectors.sh \
-    "cargo test"; do
+for command in "rt check kawsarpa" "rt staticlib kawsarpa" tests/make/run.sh tests/lint.sh tests/c/run.sh tests/c/example.sh \
+    tests/c/vectors.sh "cargo test"; do
     grep -qF "$command" "$work/output" || fail "make check does not do: $command"
     checks=$((checks + 1))
 done
