@@ -18,19 +18,24 @@ in a trial run with more definitions unfolded: its law is true.
 
   refusers.py            prints crate, edit and refuser of every log
   refusers.py --explain  so, and the kind and place of the error that decided
-  refusers.py --write    puts the refusers into the table of docs/STATEMENTS.md; rows without a log stay
-  refusers.py --check    compares that table with the logs, and ends with status 1 where they differ
+  refusers.py --write    makes the list of docs/MUST-FAIL.md anew from the edits of the crates and their logs; where there
+                         is no log, the refuser stays
+  refusers.py --listed   compares the edits and slips of that list with those of the crates, without a log
+  refusers.py --check    so, and the refusers with the logs; ends with status 1 where they differ
 """
 import argparse
 import collections
 import pathlib
 import re
 import sys
+import textwrap
 
 ROOT = pathlib.Path(__file__).resolve().parent.parent
-TABLE = pathlib.Path("docs/STATEMENTS.md")
-TABLE_BEGINS = "<!-- must-fail table -->"
-ROW = re.compile(r"\| `([a-z0-9_]+)` \| `([a-z0-9_]+)` \| (.*) \| ([^|]*) \|")
+LIST = pathlib.Path("docs/MUST-FAIL.md")
+LIST_BEGINS = "<!-- the edits -->"
+CRATE = re.compile(r"## ([a-z0-9_]+)")
+ITEM = re.compile(r"- `([a-z0-9_]+)`: (.*?) Refused by (.*)")
+COLUMNS = 120
 
 FALSE, UNPROVED, DIFFERS = "false", "unproved", "differs"
 
@@ -258,23 +263,45 @@ def cell_of(error, kind):
     return cell if kind == FALSE else f"{cell}, {kind}"
 
 
-# ---- the table
+# ---- the list
 
 
-def table(text):
-    """The lines of the document, and of each row its index, crate, edit and last cell."""
-    lines = text.splitlines()
-    if TABLE_BEGINS not in lines:
-        raise Fault(f"{TABLE}: no line {TABLE_BEGINS}")
-    begin = lines.index(TABLE_BEGINS)
-    rows = []
-    for at in range(begin + 1, len(lines)):
-        row = ROW.fullmatch(lines[at])
-        if row:
-            rows.append((at, row[1], row[2], row[4]))
-    if not rows:
-        raise Fault(f"{TABLE}: no row of an edit behind {TABLE_BEGINS}")
-    return lines, rows
+def listed(root):
+    """The words before the list, and of each edit in it slip and refuser, by crate and name."""
+    before, begins, after = (root / LIST).read_text().partition(f"{LIST_BEGINS}\n")
+    if not begins:
+        raise Fault(f"{LIST}: no line {LIST_BEGINS}")
+    items, crate = {}, None
+    for block in re.split(r"\n+(?=- |## )", after.strip()):
+        heading = CRATE.fullmatch(block)
+        item = ITEM.fullmatch(" ".join(block.split()))
+        if heading:
+            crate = heading[1]
+        elif item and crate and (crate, item[1]) not in items:
+            items[crate, item[1]] = (item[2], item[3])
+        else:
+            raise Fault(f"{LIST}: this is no edit of a crate, or one for the second time: {block}")
+    return before + begins, items
+
+
+def render(items):
+    """The list as it stands in the document: under each crate its edits, each with the slip and what refuses it."""
+    lines, last = [], None
+    for (crate, edit), (slip, cell) in items.items():
+        if crate != last:
+            lines += ["", f"## {crate}", ""]
+        last = crate
+        lines += textwrap.wrap(
+            f"- `{edit}`: {slip}", COLUMNS, subsequent_indent="  ", break_long_words=False, break_on_hyphens=False
+        )
+        lines.append(f"  Refused by {cell}")
+    return "\n".join(lines) + "\n"
+
+
+def edits(root):
+    """The slip of each edit that a crate has, by crate and name: the first line of its file."""
+    files = sorted((file.parent.parent.name, file.stem, file) for file in root.glob("crates/*/must-fail/*.edit"))
+    return {(crate, edit): file.read_text().partition("\n")[0] for crate, edit, file in files}
 
 
 def edits_with_logs(logs):
@@ -286,31 +313,45 @@ def edits_with_logs(logs):
 
 
 def write(root, logs):
-    lines, rows = table((root / TABLE).read_text())
-    there = set(edits_with_logs(logs))
-    changed = kept = 0
-    for at, crate, edit, said in rows:
+    before, old = listed(root)
+    edits_with_logs(logs)
+    new, kept = {}, 0
+    for (crate, edit), slip in edits(root).items():
         try:
             cell = refuser(logs / crate / edit, crate, edit).cell
         except Fault as fault:
-            tell(f"{crate}/{edit}: the row stays: {fault}")
+            _, cell = old.get((crate, edit), (slip, "-"))
+            tell(f"{crate}/{edit}: its refuser stays {cell}: {fault}")
             kept += 1
-            continue
-        if cell != said:
-            lines[at] = lines[at].removesuffix(f" {said} |") + f" {cell} |"
-            changed += 1
-    for crate, edit in sorted(there - {(crate, edit) for _, crate, edit, _ in rows}):
-        tell(f"{crate}/{edit}: no row in {TABLE}")
+        new[crate, edit] = (slip, cell)
+    changed = sum(old.get(key) != item for key, item in new.items()) + len(old.keys() - new.keys())
     if changed:
-        (root / TABLE).write_text("\n".join(lines) + "\n")
-    print(f"refusers: {len(rows)} must-fail edits, {changed} rows of {TABLE} changed, {kept} stay for want of a log")
+        (root / LIST).write_text(before + render(new))
+    print(f"refusers: {len(new)} must-fail edits, {changed} of {LIST} changed, {kept} stay for want of a log")
+
+
+def check_listed(root):
+    """Whether the list has the edits of the crates, with their slips, in the form that --write gives it."""
+    before, items = listed(root)
+    there = edits(root)
+    wrong = [f"{crate}/{edit}: not in {LIST}" for crate, edit in there.keys() - items.keys()]
+    wrong += [f"{LIST}: {crate}/{edit}: the crate has no such edit" for crate, edit in items.keys() - there.keys()]
+    for key in there.keys() & items.keys():
+        if there[key] != items[key][0]:
+            wrong.append(f"{LIST}: {'/'.join(key)}\n  list: {items[key][0]}\n  edit: {there[key]}")
+    if not wrong and (root / LIST).read_text() != before + render(dict(sorted(items.items()))):
+        wrong.append(f"{LIST}: not in the order or the layout that `tests/refusers.py --write` gives it")
+    if wrong:
+        raise Fault("\n".join(sorted(wrong)))
+    print(f"refusers: {len(items)} must-fail edits in {LIST}", flush=True)
+    return items
 
 
 def check(root, logs):
-    _, rows = table((root / TABLE).read_text())
+    items = check_listed(root)
     edits_with_logs(logs)
     differ = silent = 0
-    for at, crate, edit, said in rows:
+    for (crate, edit), (_, said) in items.items():
         try:
             seen = refuser(logs / crate / edit, crate, edit)
         except Fault as fault:
@@ -318,13 +359,13 @@ def check(root, logs):
             silent += 1
             continue
         if seen.cell != said:
-            tell(f"{TABLE}:{at + 1}: {crate}/{edit}\n  table: {said}\n  log:   {seen.cell}\n    {reason(seen)}")
+            tell(f"{LIST}: {crate}/{edit}\n  list: {said}\n  log:  {seen.cell}\n    {reason(seen)}")
             differ += 1
-    print(f"refusers: {len(rows)} must-fail edits, {len(rows) - differ - silent} as {TABLE} says", flush=True)
+    print(f"refusers: {len(items)} must-fail edits, {len(items) - differ - silent} as {LIST} says", flush=True)
     if silent:
         tell(f"refusers.py: {silent} without a log that tells it; `rt must-fail CRATE` makes those of a crate")
     if differ:
-        tell(f"refusers.py: {differ} otherwise; `tests/refusers.py --write` puts what the logs show into the table")
+        tell(f"refusers.py: {differ} otherwise; `tests/refusers.py --write` puts what the logs show into the list")
     if differ or silent:
         sys.exit(1)
 
@@ -361,13 +402,16 @@ def main():
     )
     mode = parser.add_mutually_exclusive_group()
     mode.add_argument("--explain", action="store_true", help="print the error that decided, too")
-    mode.add_argument("--write", action="store_true", help=f"put what the logs show into the table of {TABLE}")
-    mode.add_argument("--check", action="store_true", help=f"compare the table of {TABLE} with the logs")
+    mode.add_argument("--write", action="store_true", help=f"make the list of {LIST} from edits and logs")
+    mode.add_argument("--listed", action="store_true", help=f"compare the list of {LIST} with the edits of the crates")
+    mode.add_argument("--check", action="store_true", help="compare it with edits and logs")
     parser.add_argument("--root", type=pathlib.Path, default=ROOT, help="the repository, if not this script's")
     options = parser.parse_args()
     logs = options.root / "target" / "must-fail"
     try:
-        if options.check:
+        if options.listed:
+            check_listed(options.root)
+        elif options.check:
             check(options.root, logs)
         elif options.write:
             write(options.root, logs)

@@ -1,5 +1,5 @@
 """Part 3: the kernel's headend (H.Encaps, reduced or not, of packets and of frames) builds SRv6 packets from plain ones, the kernel's End
-passes them on, and the library takes them: at waypoints, at E6 and at E4. What document 01 refuses of them, it refuses."""
+passes them on, and the library takes them: at waypoints, at E6 and at E4. What docs/RULES.md refuses of them, it refuses."""
 
 import socket
 from dataclasses import dataclass

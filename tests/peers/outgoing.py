@@ -1,4 +1,4 @@
-"""What document 01 says is written, as tshark must show it: a statement of the layouts that is derived from neither the library nor the
+"""What docs/RULES.md, Written, says, as tshark must show it: a statement of the layouts that is derived from neither the library nor the
 second program."""
 
 import expect

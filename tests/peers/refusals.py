@@ -1,4 +1,4 @@
-"""Part 3, its other half: packets of the kernel's headend that document 01 refuses, each with its answer."""
+"""Part 3, its other half: packets of the kernel's headend that docs/RULES.md refuses, each with its answer."""
 
 from typing import NamedTuple
 

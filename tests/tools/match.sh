@@ -40,7 +40,7 @@ waypoint_entry() { # PREFIX
 # One octet of a table changed.
 octet() { # TABLE FROM OFFSET VALUE
     cp "$2" "$1"
-    printf "\\x$(printf %02x "$4")" | dd of="$1" bs=1 seek="$3" conv=notrunc status=none
+    printf %b "\\x$(printf %02x "$4")" | dd of="$1" bs=1 seek="$3" conv=notrunc status=none
 }
 
 waypoints=(--via gate --via mast)
@@ -172,7 +172,7 @@ vary changed office "$(record downlink-ipv4 's/session-type: .*/session-type: IP
 differs changed crane "$d4 -> $e4: 8 session types differ: IPv6 in the near rule, IPv4 in the far entry"
 
 # 9: starts of Args
-vary crane-9 crane '/^entries/,$s/args-octet: 8/args-octet: 9/'
+vary crane-9 crane '/^entries/,$ s/args-octet: 8/args-octet: 9/'
 differs office crane-9 "$di -> $e6: 9 starts of Args differ: octet 8 in near policy 1, octet 9 in the far entry"
 vary shifted office '/^policies/,/^entries/s/args-octet: 8/args-octet: 11/'
 differs shifted crane "$di -> $e6: 9 starts of Args differ: octet 11 in near policy 1, octet 8 in the far entry"
@@ -358,7 +358,7 @@ nothing_printed
 run 2 match --near office --via - --via mast --via - --far crane <gate
 nothing_printed
 for arguments in '--near none --far crane' '--near office --far none' '--near office --via gate --via none --far crane'; do
-    # shellcheck disable=SC2086
+    # shellcheck disable=SC2086 # several words
     run 3 match $arguments
     complained "kawsarpa: none: No such file or directory"
     nothing_printed
@@ -485,7 +485,7 @@ for document in "$top/README.md" "$top/docs/FIELD-GUIDE.md" "$yard/README.md"; d
         shown '    ' "$command" "$document" >expected
         [ -s expected ] || fail "$document shows nothing behind: $command"
         shown '' "$command" demo | diff expected - >&2 || fail "$document does not show what the demo prints: $command"
-        # shellcheck disable=SC2086
+        # shellcheck disable=SC2086 # several words
         "$tool" ${command#kawsarpa } >stdout || [ $? -eq 1 ] || fail "it fails: $command"
         same stdout expected
         told=$((told + 1))

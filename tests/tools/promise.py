@@ -1,6 +1,6 @@
 """promise.py DIRECTORY: tables, captures and what is expected of `kawsarpa trip` over them, for promise.sh.
 
-What has to come out is put together here from document 01, neither by the library nor by the tool. The same octets every time.
+What has to come out is put together here by docs/RULES.md, Written, neither by the library nor by the tool. The same octets every time.
 """
 
 import random

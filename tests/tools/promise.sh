@@ -68,11 +68,11 @@ done
 
 run 1 trip "${there[@]}" --far crane downlink.pcap
 arrivals "$(unchanged 40)" "$(unchanged 40)" "$(unchanged 39)"
-vary flipped crane '/^entries/,$s/direction: downlink/direction: uplink/'
+vary flipped crane '/^entries/,$ s/direction: downlink/direction: uplink/'
 run 1 trip "${there[@]}" --far flipped downlink.pcap
 arrivals "$changed R, direction" "$changed R, direction" "$changed direction"
 printed "3 of 4 packets arrived, 0 of them with the destination, TEID, QFI, R, traffic class and inner octets that went in"
-vary flipped office '/^entries/,$s/direction: uplink/direction: downlink/'
+vary flipped office '/^entries/,$ s/direction: uplink/direction: downlink/'
 run 1 trip --near crane --via mast --via gate --far flipped uplink.pcap
 arrivals "$changed direction" "$changed direction"
 
@@ -111,7 +111,7 @@ entries:
    session-type: IPv4, policy: nine}
 EOF
 run 0 compile d.yaml -o d
-vary flipped crane '/^entries/,$s/direction: downlink/direction: uplink/'
+vary flipped crane '/^entries/,$ s/direction: downlink/direction: uplink/'
 run 0 trip --near d --far crane d.pcap
 arrivals "$(unchanged 40)" "$(unchanged 40)"
 run 1 trip --near d --far flipped d.pcap

@@ -136,7 +136,7 @@ for out in both both.hard both.link /dev/stdout; do
 done
 for arguments in "translate --table office downlink.pcap -" "trip ${there[*]} --far crane downlink.pcap -o -"; do
     code=0
-    # shellcheck disable=SC2086
+    # shellcheck disable=SC2086 # several words
     "$tool" $arguments >both 2>&1 || code=$?
     [ "$code" -eq 2 ] || fail "exit code $code, not 2: $arguments >both 2>&1"
     grep -qxF "kawsarpa: standard output: is the file that standard error goes to, and can hold only one of the two" both ||

@@ -53,7 +53,7 @@ block() { # FENCE WORDS
 }
 
 octet() { # FILE OFFSET VALUE: changes one octet
-    printf "\\x$(printf %02x "$3")" | dd of="$1" bs=1 seek="$2" conv=notrunc status=none
+    printf %b "\\x$(printf %02x "$3")" | dd of="$1" bs=1 seek="$2" conv=notrunc status=none
 }
 
 ### usage
@@ -70,7 +70,7 @@ done
 for command in '' compile show check match explain translate trip loss; do
     # shellcheck disable=SC2086 # no argument where there is no command
     expect 0 'Exit codes: 0' $command -h
-    # shellcheck disable=SC2086
+    # shellcheck disable=SC2086 # the same
     "$tool" $command --help | cmp -s - output || fail "-h is not --help: kawsarpa $command"
 done
 expect 2 'a command is needed'
@@ -106,9 +106,9 @@ expect 0 'entry 3' explain --fault "$(sed -n 's/.*fault \([0-9]*\);.*/\1/p' erro
 "$tool" compile - -o - <site.yaml | cmp -s - site.table || fail "compile - -o - does not give the table"
 "$tool" show - <site.table | cmp -s - shown.yaml || fail "show - differs"
 "$tool" check -i 100 - <site.table >output || fail "check - failed"
-grep -q '^entry 2 .* +32 *164  *196$' output || fail "check -i 100: not the lengths of document 01"
+grep -q '^entry 2 .* +32 *164  *196$' output || fail "check -i 100: not the lengths of docs/RULES.md, Worked packets"
 
-### lengths: the worked packets of document 01, and rules with and without waypoints
+### lengths: the worked packets of docs/RULES.md, and rules with and without waypoints
 
 cat >lengths.yaml <<'END'
 format: 1
@@ -397,12 +397,12 @@ compgen -G 'bad.table*' >/dev/null && fail "a file was left"
 
 # standard output that is full, and a reader that has gone
 for arguments in '--help' 'check --help' 'check site.table' 'show site.table' 'explain 7' 'compile site.yaml -o -'; do
-    # shellcheck disable=SC2086
+    # shellcheck disable=SC2086 # several words
     "$tool" $arguments >/dev/full 2>errors
     [ $? -eq 3 ] || fail "standard output full: kawsarpa $arguments"
     grep -qx 'kawsarpa: standard output: No space left on device' errors || fail "standard output full, not said: kawsarpa $arguments"
     [ "$(wc -l <errors)" -eq 1 ] || fail "standard output full, said twice: kawsarpa $arguments"
-    # shellcheck disable=SC2086
+    # shellcheck disable=SC2086 # the same
     { sleep 0.1; "$tool" $arguments 2>errors; echo $? >status; } | true
     [ "$(cat status)" -eq 3 ] || fail "closed pipe: kawsarpa $arguments"
     grep -qx 'kawsarpa: standard output: Broken pipe' errors || fail "closed pipe, not said: kawsarpa $arguments"
@@ -490,12 +490,11 @@ done
 ### tables of the second program, shown and compiled: it answers as before, and finds the same ones unsound
 
 if [ -n "$second" ]; then
-    "$second" vectors --seed 11 --per-kind 40 >vectors || fail "second vectors failed"
+    "$second" vectors --seed 11 --per-kind 40 >its.vectors || fail "second vectors failed"
     while read -r kind call number rest; do
         [ "$kind" = '#' ] && continue
         read -r type code pointer length room packet table out <<<"$rest"
-        # shellcheck disable=SC2059
-        printf "$(sed 's/^-$//; s/../\\x&/g' <<<"$table")" >its.table
+        printf %b "$(sed 's/^-$//; s/../\\x&/g' <<<"$table")" >its.table
         if [ "$number" -eq 1 ]; then
             expect 1 'not sound' check its.table
             continue
@@ -505,7 +504,7 @@ if [ -n "$second" ]; then
         cp output shown.yaml
         expect 0 '' compile shown.yaml -o out.table
         echo "$kind $call $number $type $code $pointer $length $room $packet $(od -An -v -tx1 out.table | tr -d ' \n') $out"
-    done <vectors >recompiled
+    done <its.vectors >recompiled
     "$second" check <recompiled >output 2>errors || fail "tables that were shown and compiled answer otherwise"
     echo "tables.sh: second: $(cat output)"
 fi

@@ -1,5 +1,5 @@
--- Tables that fit: document 01's matching entries and the hop limit, with no packet in them, for every Args that can be written and over
--- IPv4 for every destination under the rule's prefix.
+-- Tables that fit: the premises of docs/RULES.md, Trip, that speak of tables, the hop limit among them, with no packet in them, for every
+-- Args that can be written and over IPv4 for every destination under the rule's prefix.
 use mathlib.Core.Path.{_≡_}
 use mathlib.Core.Bool.{true}
 use mathlib.Core.List.{List, [], _∷_}

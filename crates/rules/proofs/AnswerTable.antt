@@ -69,7 +69,7 @@ module _ (p : List ℕ) where
 
 -- BOTH CALLS
 
--- what a refusal of document 01's list is: its number is from 1 to 16, its ICMP fields are those of the number
+-- what a refusal of the list is (docs/RULES.md, Answers): its number is from 1 to 16, its ICMP fields are those of the number
 pub record Proper (refusalOf : ℕ → Refusal) (r : Refusal) : Type 0 where
   pub least : 1 ≤ r .number
   pub most : r .number ≤ 16

@@ -1,4 +1,5 @@
--- The two calls: of the numbers that apply the first is given; every answer is one of document 01's list; what the output holds afterwards.
+-- The two calls: of the numbers that apply the first is given; every answer is one of the list (docs/RULES.md, Answers); what the output
+-- holds afterwards.
 use mathlib.Core.Path.{_≡_, refl, sym, ap, _∙_, subst}
 use mathlib.Core.Bool.{Bool, true, false, cond}
 use mathlib.Core.List.{List, [], _∷_}
@@ -59,7 +60,7 @@ pub smallest4 : (p t : List ℕ) (room : ℕ) → Smallest (λ n. applies n (row
 unfolding translate4 rows4
 smallest4 p t room = smallest withoutIcmp (inRoom room (decide4 p t)) (tabled4 p t room)
 
--- DOCUMENT 01'S LIST
+-- THE LIST OF ANSWERS
 
 -- number, ICMP fields and length, from the answer in one number
 pub sent-read : (x : List ℕ) → ReadBack (packed (Sent x)) 0 0 0 0 (length x)

@@ -1,5 +1,5 @@
--- Samples beside document 01's, checked by computation: whole trips over IPv4, what buffers hold, R in uplink, one prefix within
--- another, and the sum of RFC 1071, 3.
+-- Samples beside those of docs/RULES.md, Worked packets, checked by computation: whole trips over IPv4, what buffers hold, R in uplink,
+-- one prefix within another, and the sum of RFC 1071, 3.
 use mathlib.Core.List.{List, [], _∷_, _++_}
 use Prim.Native.Nat.{ℕ}
 use lib.Dec.{T}

@@ -1,4 +1,4 @@
--- The starred worked packets of document 01: rows of one list, under one claim about the definitions.
+-- The worked packets with a star (docs/RULES.md, Worked packets): rows of one list, under one claim about the definitions.
 use mathlib.Core.Bool.{Bool, true, false, _&&_}
 use mathlib.Core.List.{List, [], _∷_, _++_}
 use Prim.Native.Nat.{ℕ}
@@ -26,7 +26,7 @@ pub record Example : Type 0 where
   pub got : List ℕ
   pub want : List ℕ
 
--- what is computed, and what document 01 says
+-- what is computed, and what docs/RULES.md says
 abbrev pub is : List ℕ → List ℕ → Example
 is got want = record { got = got; want = want }
 

@@ -138,7 +138,7 @@ pub record Again (near : Stop) (ss : List Stop) (far : Stop) (near′ : Stop) (s
   pub sameFar : Same far far′
   pub room : Room near′ ss′ far′ onTheWay atTheEnd
 
--- What a trip delivers: it arrives; every field of the result is written as document 01 fixes it, said without a writer; the result
+-- What a trip delivers: it arrives; every field of the result is as docs/RULES.md, Written, fixes it, said without a writer; the result
 -- is the headers and the inner octets; a reader reads from it what it read from the packet that went in; and both second trips, begun
 -- with the packet that went in and with the one that came out, arrive with the same packets.
 pub record Delivers (near : Stop) (ss : List Stop) (far : Stop) (p first result : List ℕ)

@@ -1,5 +1,5 @@
--- Sound tables, said a second time: the sentences of document 01 and of the table's layout, through the readers of the records and in
--- plain numbers. No condition of Sound.antt is named here.
+-- Sound tables, said a second time: the sentences of docs/RULES.md, Sound tables, and the table's layout, through the readers of the
+-- records and in plain numbers. No condition of Sound.antt is named here.
 use mathlib.Core.Path.{_≡_}
 use mathlib.Core.Logic.{_≢_}
 use mathlib.Core.List.{List}

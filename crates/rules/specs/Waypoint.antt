@@ -1,4 +1,4 @@
--- The waypoint: document 01's word for an SRv6 End node (RFC 8986, 4.1), without segment popping.
+-- The waypoint: our word for an SRv6 End node (RFC 8986, 4.1), without segment popping.
 use mathlib.Core.Bool.{Bool, not, _&&_}
 use mathlib.Core.List.{List, [], _∷_}
 use Prim.Native.Nat.{ℕ, _+_, _-_}

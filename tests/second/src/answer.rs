@@ -1,4 +1,4 @@
-//! Document 01, "Answer numbers", and the packed answer of the C interface.
+//! The answers (docs/RULES.md, Answers), and the packed answer of the C interface.
 
 use std::fmt;
 

@@ -1,4 +1,4 @@
-//! Args.Mob.Session (RFC 9433, 6.1; document 01, "Layouts"): QFI 6, R 1, U 1, TEID 32.
+//! Args.Mob.Session (RFC 9433, 6.1; docs/RULES.md, Args): QFI 6, R 1, U 1, TEID 32.
 
 /// Width of the field.
 pub const BITS: u32 = 40;

@@ -1,4 +1,4 @@
-//! GTP-U and the PDU Session container (TS 29.281, TS 38.415; document 01, rows 10 to 13).
+//! GTP-U and the PDU Session container (TS 29.281, TS 38.415; docs/RULES.md, Answers 10 to 13).
 
 use crate::answer::Refusal;
 use crate::args::ArgsMobSession;

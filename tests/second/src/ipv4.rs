@@ -1,4 +1,4 @@
-//! The IPv4 header (RFC 791; document 01, rows 2 and 3).
+//! The IPv4 header (RFC 791; docs/RULES.md, Answers 2 and 3).
 
 use crate::answer::Refusal;
 use crate::wire::Reader;

@@ -1,4 +1,4 @@
-//! The IPv6 header and its chain (RFC 8200, RFC 8754; document 01, rows 2 and 5).
+//! The IPv6 header and its chain (RFC 8200, RFC 8754; docs/RULES.md, Answers 2 and 5).
 
 use crate::answer::Refusal;
 use crate::wire::Reader;

@@ -1,5 +1,5 @@
-//! Whether tables fit, told without a packet: document 01, "Matching entries (demand 3)" and "The
-//! trip", with the numbers of the C interface.
+//! Whether tables fit, told without a packet: docs/RULES.md, Trip and Tables that
+//! fit, with the numbers of the C interface.
 //!
 //! A near entry or rule can write many SIDs: with any QFI and TEID, with any R in downlink, and
 //! over IPv4 with any destination under the rule's prefix. A [`Pattern`] holds all of them. The

@@ -1,4 +1,4 @@
-//! What is written (document 01, "What is written").
+//! What is written (docs/RULES.md, Written).
 
 use crate::answer::Refusal;
 use crate::args::ArgsMobSession;

@@ -1,6 +1,6 @@
 //! Order 13: TEID and sequence number of a packet as it arrives.
 //!
-//! "Well-formed" is said by the rows of document 01, as at D, Di and D4. No table is asked, so
+//! "Well-formed" is said by the rows of docs/RULES.md, Answers, as at D, Di and D4. No table is asked, so
 //! rows 1 and 4 are not examined; nor are the extensions and what follows them, rows 12 to 16.
 
 pub mod cases;

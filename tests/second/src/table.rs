@@ -1,4 +1,4 @@
-//! The table octets and what makes a table sound (document 01, "Sound tables").
+//! The table octets and what makes a table sound (docs/RULES.md, Table and Sound tables).
 //!
 //! A decoded [`Table`] is sound: whatever breaks a condition does not decode.
 

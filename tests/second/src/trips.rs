@@ -1,4 +1,4 @@
-//! Document 01, "The trip": near gateway (Di or D4), waypoints, far gateway (E6
+//! The trip (docs/RULES.md, Trip): near gateway (Di or D4), waypoints, far gateway (E6
 //! or E4), each stop with a table and a buffer of its own.
 //!
 //! What should come out is put together here from the values that went in, not

@@ -1,4 +1,4 @@
-//! UDP around GTP-U (document 01, rows 8 and 9). Checksums are not examined.
+//! UDP around GTP-U (docs/RULES.md, Answers 8 and 9). Checksums are not examined.
 
 use crate::answer::Refusal;
 use crate::ipv6::next_header;

@@ -1,5 +1,5 @@
-//! Document 01, "Worked packets": each that can be said as a function's result; and those of order
-//! 13, for the readers.
+//! The worked packets (docs/RULES.md, Worked packets): each that can be said as a function's result;
+//! and those of order 13, for the readers.
 
 use crate::answer::Answer;
 use crate::args::ArgsMobSession;
