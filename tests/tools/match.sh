@@ -412,7 +412,7 @@ for number in {1..16}; do
     grep -q '^Means: ' stdout || fail "explain --match $number has no meaning"
     grep -q '^Next step: ' stdout || fail "explain --match $number has no next step"
     name=$(sed -n "s/^$number: //p" stdout)
-    grep -qF "| $number $name |" "$top/docs/FIELD-GUIDE.md" || fail "no row in the field guide: $number $name"
+    grep -qF -e "- **$number $name**: " "$top/docs/FIELD-GUIDE.md" || fail "not in the field guide: $number $name"
     checks=$((checks + 1))
 done
 run 0 explain --match 0
