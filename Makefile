@@ -66,7 +66,7 @@ check-packages:
 
 # what the tests beside the proofs need
 test-packages:
-	$(call install,gcc:gcc g++:g++ nm:binutils cargo:cargo valgrind:valgrind mandoc:mandoc pkg-config:pkg-config $(tool_needs))
+	$(call install,gcc:gcc g++:g++ nm:binutils cargo:cargo valgrind:valgrind mandoc:mandoc pkg-config:pkg-config jq:jq $(tool_needs))
 
 # the layout of the sources, and that what the documents list is there
 format:
@@ -166,6 +166,7 @@ tool-test: tool target/tools/kawsarpa-flipped second
 	tests/tools/safety.sh target/tools/kawsarpa-asan
 	tests/tools/loss.sh target/tools/kawsarpa-asan
 	tests/tools/match.sh target/tools/kawsarpa-asan
+	tests/tools/json.sh target/tools/kawsarpa-asan target/tools/kawsarpa-flipped
 	python3 docs/trip.py | cmp - docs/trip.svg
 
 # what is installed, in a directory of its own: files, a C program that finds the library, manual pages, completion

@@ -5,12 +5,12 @@
 _kawsarpa_options() { # COMMAND
     case $1 in
     compile) echo -o --output ;;
-    check) echo -i --inner -q --quiet ;;
-    match) echo --near --via --far --both -q --quiet ;;
+    check) echo -i --inner --json -q --quiet ;;
+    match) echo --near --via --far --both --json -q --quiet ;;
     explain) echo -f --fault -m --match ;;
-    translate) echo --table --trace -q --quiet ;;
-    trip) echo --near --via --far -o --output -q --quiet ;;
-    loss) echo --csv ;;
+    translate) echo --table --trace --json -q --quiet ;;
+    trip) echo --near --via --far -o --output --json -q --quiet ;;
+    loss) echo --csv --json ;;
     esac
     echo --help --usage --version
 }

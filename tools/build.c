@@ -135,8 +135,11 @@ struct field_use {
     enum use end, d, e6, e4; /* d: End.M.GTP6.D and End.M.GTP6.D.Di */
 };
 
-#define TEXT_OF(member) \
-    static char *member##_of(const struct entry_description *entry) { return entry->member; }
+#define TEXT_OF(member)                                             \
+    static char *member##_of(const struct entry_description *entry) \
+    {                                                               \
+        return entry->member;                                       \
+    }
 TEXT_OF(source)
 TEXT_OF(direction)
 TEXT_OF(session_type)

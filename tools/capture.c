@@ -144,11 +144,48 @@ void capture_say_counts(FILE *to, const struct capture_counts *counts)
 {
     fprintf(to, "frames %lu: IP packets %lu, not IP %lu, snapped %lu; padding cut %lu\n", counts->frames, counts->packets, counts->not_ip,
             counts->snapped, counts->padded);
-    for (unsigned int i = 0; i < FRAME_WRAPPINGS; i++)
-        if (counts->wrapped[i] > 0)
-            fprintf(to, "%8lu  %s: may hold IP, but is not looked into\n", counts->wrapped[i], frame_wrapping_name(i));
+    for (unsigned int i = 0; i < FRAME_WRAPPINGS; i++) {
+        if (counts->wrapped[i] == 0)
+            continue;
+        fprintf(to, "%8lu  ", counts->wrapped[i]);
+        if (frame_wrapping_ethertype(i) != 0)
+            fprintf(to, "0x%04x ", frame_wrapping_ethertype(i));
+        fprintf(to, "%s: may hold IP, but is not looked into\n", frame_wrapping_name(i));
+    }
     if (counts->cut)
         fprintf(to, "the capture is cut in frame %lu, which is not counted\n", counts->frames + 1);
+}
+
+static void json_wrapped(struct json *json, const unsigned long wrapped[FRAME_WRAPPINGS])
+{
+    json_array(json, "wrapped");
+    for (unsigned int i = 0; i < FRAME_WRAPPINGS; i++) {
+        if (wrapped[i] == 0)
+            continue;
+        json_object(json, NULL);
+        if (frame_wrapping_ethertype(i) != 0)
+            json_number(json, "ethertype", frame_wrapping_ethertype(i));
+        json_text(json, "name", frame_wrapping_name(i));
+        json_number(json, "frames", wrapped[i]);
+        json_close(json);
+    }
+    json_close(json);
+}
+
+void capture_json(struct json *json, const struct capture_reader *reader)
+{
+    const struct capture_counts *counts = &reader->counts;
+    json_object(json, "capture");
+    json_text(json, "name", reader->name);
+    json_number(json, "frames", counts->frames);
+    json_number(json, "ip_packets", counts->packets);
+    json_number(json, "not_ip", counts->not_ip);
+    json_number(json, "snapped", counts->snapped);
+    json_number(json, "padding_cut", counts->padded);
+    json_wrapped(json, counts->wrapped);
+    if (counts->cut)
+        json_number(json, "cut_in_frame", counts->frames + 1);
+    json_close(json);
 }
 
 /*

@@ -9,12 +9,13 @@
 #include <time.h>
 
 #include "frame.h"
+#include "json.h"
 
 struct capture_packet {
-    unsigned long number;   /* of the frame in its capture, from 1 */
+    unsigned long number; /* of the frame in its capture, from 1 */
     struct timespec time;
-    unsigned int version;   /* 4 or 6 */
-    const uint8_t *octets;  /* good until the next packet is read */
+    unsigned int version;  /* 4 or 6 */
+    const uint8_t *octets; /* good until the next packet is read */
     size_t length;
 };
 
@@ -47,6 +48,9 @@ void capture_close(struct capture_reader *reader);
 
 /* A line about the frames that were read, one for each wrapping among them, and one where the capture is cut. */
 void capture_say_counts(FILE *to, const struct capture_counts *counts);
+
+/* The same as a JSON object, with the name of the capture. */
+void capture_json(struct json *json, const struct capture_reader *reader);
 
 /* Begins a capture of raw IP packets in an open file; false: the write failed. */
 bool capture_begin(FILE *file);

@@ -1,5 +1,6 @@
 /* kawsarpa check: whether a table is sound, and what it does to the lengths of packets. */
 #include <argp.h>
+#include <stdarg.h>
 #include <stdlib.h>
 #include <string.h>
 
@@ -14,11 +15,16 @@ enum { INNER = 1500, INNER_MOST = 65000 /* sent by every sound table: no length 
 struct options {
     const char *table;
     unsigned int inner;
+    bool json;
     bool quiet;
 };
 
+/* Options without a short name have numbers past those of characters. */
+enum { OPTION_JSON = 256 };
+
 static const struct argp_option option_list[] = {
     {"inner", 'i', "OCTETS", 0, "the length of the inner packet for which MTUs are told, instead of 1500", 0},
+    {"json", OPTION_JSON, NULL, 0, json_option_words, 0},
     {"quiet", 'q', NULL, 0, "print nothing but faults; the exit code says whether the table is sound", 0},
     {NULL, 0, NULL, 0, NULL, 0},
 };
@@ -31,6 +37,9 @@ static error_t parse(int key, char *argument, struct argp_state *state)
         if (!number_read(argument, &options->inner) || options->inner > INNER_MOST)
             argp_error(state, "an inner packet has 0 to %d octets, not %s", INNER_MOST, argument);
         return 0;
+    case OPTION_JSON:
+        options->json = true;
+        return 0;
     case 'q':
         options->quiet = true;
         return 0;
@@ -41,6 +50,9 @@ static error_t parse(int key, char *argument, struct argp_state *state)
         return 0;
     case ARGP_KEY_NO_ARGS:
         argp_error(state, "a table is needed");
+        return 0;
+    case ARGP_KEY_END:
+        options_exclude(state, options->json, "--json", options->quiet, "--quiet");
         return 0;
     default:
         return ARGP_ERR_UNKNOWN;
@@ -56,138 +68,200 @@ static const struct argp argp = {option_list, parse, "TABLE", help_text, shared_
 
 /* Octets around the inner packet. The container has one unit, as the gateway writes it; before translation there is no SRH. */
 enum {
-    GTPU = 8 + 8 + 4 + 4,    /* UDP; GTP-U; its optional fields; the PDU Session container */
+    GTPU = 8 + 8 + 4 + 4, /* UDP; GTP-U; its optional fields; the PDU Session container */
     OVER_IPV6 = 40 + GTPU,
-    OVER_IPV4 = 20 + GTPU
+    OVER_IPV4 = 20 + GTPU,
+    SEGMENT = 16
 };
 
 static unsigned int srv6(unsigned int segments)
 {
-    return 40 + (segments == 0 ? 0 : 8 + 16 * segments);
+    return 40 + (segments == 0 ? 0 : 8 + SEGMENT * segments);
 }
 
-/* A line of the list, and the largest SRv6 packet of all. */
+/* The length of the SRv6 packet; with a letter, and so many octets more for each of what it stands for. */
+struct form {
+    unsigned int srv6;
+    unsigned int each;
+    const char *letter; /* NULL: none */
+};
+
+/* What a record does to the length of a packet. End does nothing, and has no form. */
+struct lengths {
+    struct record_words record;
+    bool to_srv6; /* else from it */
+    unsigned int gtpu;
+    struct form forms[2];
+    size_t form_count;
+};
+
+/* All of them, and the largest SRv6 packet that the table sends; 0 where it sends none. */
 struct list {
     unsigned int inner;
-    int prefix_width;
+    struct lengths records[KAWSARPA_ENTRIES_MAX + KAWSARPA_RULES_MAX];
+    size_t count;
     unsigned int largest;
 };
+
+static int change(const struct lengths *lengths, const struct form *form)
+{
+    return lengths->to_srv6 ? (int)form->srv6 - (int)lengths->gtpu : (int)lengths->gtpu - (int)form->srv6;
+}
+
+/* GTP-U in, SRv6 with this many segments out. */
+static void fill_to_srv6(struct lengths *lengths, unsigned int inner, unsigned int before, unsigned int segments)
+{
+    lengths->to_srv6 = true;
+    lengths->gtpu = inner + before;
+    lengths->forms[lengths->form_count++] = (struct form){inner + srv6(segments), 0, NULL};
+}
+
+static void fill_entry(struct lengths *lengths, unsigned int inner, const struct table_records *records, unsigned int index)
+{
+    const struct kawsarpa_entry *entry = &records->entries[index];
+    switch (entry->behaviour) {
+    case KAWSARPA_BEHAVIOUR_END:
+        break;
+    case KAWSARPA_BEHAVIOUR_END_M_GTP6_D:
+        fill_to_srv6(lengths, inner, OVER_IPV6, records->policies[entry->policy].sid_count);
+        break;
+    case KAWSARPA_BEHAVIOUR_END_M_GTP6_D_DI:
+        fill_to_srv6(lengths, inner, OVER_IPV6, records->policies[entry->policy].sid_count + 1U);
+        break;
+    case KAWSARPA_BEHAVIOUR_END_M_GTP6_E: /* n + 1 segments arrive */
+        lengths->gtpu = inner + OVER_IPV6;
+        lengths->forms[lengths->form_count++] = (struct form){inner + srv6(1), SEGMENT, "n"};
+        break;
+    default: /* End.M.GTP4.E: w + 1 segments arrive, or no SRH */
+        lengths->gtpu = inner + OVER_IPV4;
+        lengths->forms[lengths->form_count++] = (struct form){inner + srv6(0), 0, NULL};
+        lengths->forms[lengths->form_count++] = (struct form){inner + srv6(1), SEGMENT, "w"};
+        break;
+    }
+}
+
+static void fill_rule(struct lengths *lengths, unsigned int inner, const struct kawsarpa_rule *rule)
+{
+    fill_to_srv6(lengths, inner, OVER_IPV4, rule->waypoint_count == 0 ? 0 : rule->waypoint_count + 1U);
+}
+
+static void add_record(struct list *list, const struct table_records *records, unsigned int kind, unsigned int index)
+{
+    struct lengths *lengths = &list->records[list->count++];
+    *lengths = (struct lengths){.record = table_record_words(records, kind, index)};
+    if (kind == KAWSARPA_RECORD_ENTRY)
+        fill_entry(lengths, list->inner, records, index);
+    else
+        fill_rule(lengths, list->inner, &records->rules[index]);
+    if (lengths->to_srv6 && lengths->forms[0].srv6 > list->largest)
+        list->largest = lengths->forms[0].srv6;
+}
+
+static struct list make_list(const struct table_records *records, unsigned int inner)
+{
+    struct list list = {.inner = inner};
+    for (unsigned int i = 0; i < records->entry_count; i++)
+        add_record(&list, records, KAWSARPA_RECORD_ENTRY, i);
+    for (unsigned int i = 0; i < records->rule_count; i++)
+        add_record(&list, records, KAWSARPA_RECORD_RULE, i);
+    return list;
+}
 
 struct line {
     char record[24];
     const char *behaviour;
-    char prefix[PREFIX_ROOM];
+    const char *prefix;
     char change[32];
     char gtpu[16];
     char srv6[48];
 };
 
-static void print_line(const struct list *list, const struct line *line)
+static void print_line(int prefix_width, const struct line *line)
 {
-    printf("%-9s %-16s %-*s  %-12s %-6s %s\n", line->record, line->behaviour, list->prefix_width, line->prefix, line->change, line->gtpu,
+    printf("%-9s %-16s %-*s  %-12s %-6s %s\n", line->record, line->behaviour, prefix_width, line->prefix, line->change, line->gtpu,
            line->srv6);
 }
 
-/* GTP-U in, SRv6 with this many segments out. */
-static void fill_to_srv6(struct list *list, struct line *line, unsigned int before, unsigned int segments)
+/* Adds to a text that ends in its room. */
+__attribute__((format(printf, 3, 4))) static void append(char *text, size_t room, const char *format, ...)
 {
-    const unsigned int after = srv6(segments);
-    const int change = (int)after - (int)before;
-    snprintf(line->change, sizeof line->change, change == 0 ? "%d" : "%+d", change);
-    snprintf(line->gtpu, sizeof line->gtpu, "%u", list->inner + before);
-    snprintf(line->srv6, sizeof line->srv6, "%u", list->inner + after);
-    if (list->inner + after > list->largest)
-        list->largest = list->inner + after;
+    const size_t length = strlen(text);
+    va_list arguments;
+    va_start(arguments, format);
+    vsnprintf(text + length, room - length, format, arguments);
+    va_end(arguments);
 }
 
-static void print_entry(struct list *list, const struct table_records *records, unsigned int index)
+/* "+48" and "1612"; "-16n" and "1564 + 16n"; behind another form, with a comma. */
+static void append_form(struct line *line, const struct lengths *lengths, const struct form *form)
 {
-    const struct kawsarpa_entry *entry = &records->entries[index];
-    struct line line = {.behaviour = word_numbered(behaviours, entry->behaviour)->name};
-    snprintf(line.record, sizeof line.record, "entry %u", index + 1);
-    entry_prefix_text(entry, line.prefix);
-    switch (entry->behaviour) {
-    case KAWSARPA_BEHAVIOUR_END:
+    const int octets = change(lengths, form);
+    const char *comma = line->change[0] == 0 ? "" : ", ";
+    append(line->change, sizeof line->change, "%s", comma);
+    if (octets != 0)
+        append(line->change, sizeof line->change, "%+d", octets);
+    else if (form->letter == NULL)
+        append(line->change, sizeof line->change, "0");
+    append(line->srv6, sizeof line->srv6, "%s%u", comma, form->srv6);
+    if (form->letter != NULL) {
+        append(line->change, sizeof line->change, "-%u%s", form->each, form->letter);
+        append(line->srv6, sizeof line->srv6, " + %u%s", form->each, form->letter);
+    }
+}
+
+static void print_lengths(int prefix_width, const struct lengths *lengths)
+{
+    struct line line = {.behaviour = lengths->record.behaviour, .prefix = lengths->record.prefix};
+    snprintf(line.record, sizeof line.record, "%s %u", lengths->record.kind, lengths->record.number);
+    if (lengths->form_count == 0) {
         snprintf(line.change, sizeof line.change, "0");
         snprintf(line.gtpu, sizeof line.gtpu, "-");
         snprintf(line.srv6, sizeof line.srv6, "as it arrives");
-        break;
-    case KAWSARPA_BEHAVIOUR_END_M_GTP6_D:
-        fill_to_srv6(list, &line, OVER_IPV6, records->policies[entry->policy].sid_count);
-        break;
-    case KAWSARPA_BEHAVIOUR_END_M_GTP6_D_DI:
-        fill_to_srv6(list, &line, OVER_IPV6, records->policies[entry->policy].sid_count + 1U);
-        break;
-    case KAWSARPA_BEHAVIOUR_END_M_GTP6_E: /* n + 1 segments arrive */
-        snprintf(line.change, sizeof line.change, "-16n");
-        snprintf(line.gtpu, sizeof line.gtpu, "%u", list->inner + OVER_IPV6);
-        snprintf(line.srv6, sizeof line.srv6, "%u + 16n", list->inner + srv6(1));
-        break;
-    default: /* End.M.GTP4.E: w + 1 segments arrive, or no SRH */
-        snprintf(line.change, sizeof line.change, "+4, -20-16w");
-        snprintf(line.gtpu, sizeof line.gtpu, "%u", list->inner + OVER_IPV4);
-        snprintf(line.srv6, sizeof line.srv6, "%u, %u + 16w", list->inner + srv6(0), list->inner + srv6(1));
-        break;
-    }
-    print_line(list, &line);
+    } else
+        snprintf(line.gtpu, sizeof line.gtpu, "%u", lengths->gtpu);
+    for (size_t i = 0; i < lengths->form_count; i++)
+        append_form(&line, lengths, &lengths->forms[i]);
+    print_line(prefix_width, &line);
 }
 
-static void print_rule(struct list *list, const struct table_records *records, unsigned int index)
+static int prefix_width(const struct list *list)
 {
-    const struct kawsarpa_rule *rule = &records->rules[index];
-    struct line line = {.behaviour = "H.M.GTP4.D"};
-    snprintf(line.record, sizeof line.record, "rule %u", index + 1);
-    rule_prefix_text(rule, line.prefix);
-    fill_to_srv6(list, &line, OVER_IPV4, rule->waypoint_count == 0 ? 0 : rule->waypoint_count + 1U);
-    print_line(list, &line);
+    size_t width = strlen("prefix");
+    for (size_t i = 0; i < list->count; i++)
+        width = strlen(list->records[i].record.prefix) > width ? strlen(list->records[i].record.prefix) : width;
+    return (int)width;
 }
 
-static int prefix_width(const struct table_records *records)
+static bool has_letter(const struct list *list, char letter)
 {
-    int width = (int)strlen("prefix");
-    char text[PREFIX_ROOM];
-    for (unsigned int i = 0; i < records->entry_count; i++) {
-        entry_prefix_text(&records->entries[i], text);
-        width = (int)strlen(text) > width ? (int)strlen(text) : width;
-    }
-    for (unsigned int i = 0; i < records->rule_count; i++) {
-        rule_prefix_text(&records->rules[i], text);
-        width = (int)strlen(text) > width ? (int)strlen(text) : width;
-    }
-    return width;
-}
-
-static bool has_behaviour(const struct table_records *records, uint8_t behaviour)
-{
-    for (unsigned int i = 0; i < records->entry_count; i++)
-        if (records->entries[i].behaviour == behaviour)
-            return true;
+    for (size_t i = 0; i < list->count; i++)
+        for (size_t form = 0; form < list->records[i].form_count; form++)
+            if (list->records[i].forms[form].letter != NULL && list->records[i].forms[form].letter[0] == letter)
+                return true;
     return false;
 }
 
-static void print_legend(const struct list *list, const struct table_records *records)
+static void print_legend(const struct list *list)
 {
     printf("Octets that a packet gains or loses, and the MTU that either side needs, for an inner packet of %u octets and a PDU Session\n"
            "container of one unit.\n",
            list->inner);
-    if (has_behaviour(records, KAWSARPA_BEHAVIOUR_END_M_GTP6_E))
+    if (has_letter(list, 'n'))
         puts("n: SIDs of the policy with which End.M.GTP6.D.Di sent the packet.");
-    if (has_behaviour(records, KAWSARPA_BEHAVIOUR_END_M_GTP4_E))
+    if (has_letter(list, 'w'))
         puts("w: waypoints of the rule with which H.M.GTP4.D sent the packet, 1 or more; before the comma, for none.");
     if (list->largest != 0)
         printf("The SRv6 path needs an MTU of %u for what this table sends.\n", list->largest);
 }
 
-static void print_lengths(const struct table_records *records, unsigned int inner)
+static void print_list(const struct list *list)
 {
-    struct list list = {inner, prefix_width(records), 0};
     const struct line head = {"record", "behaviour", "prefix", "octets", "GTP-U", "SRv6"};
-    print_line(&list, &head);
-    for (unsigned int i = 0; i < records->entry_count; i++)
-        print_entry(&list, records, i);
-    for (unsigned int i = 0; i < records->rule_count; i++)
-        print_rule(&list, records, i);
-    print_legend(&list, records);
+    const int width = prefix_width(list);
+    print_line(width, &head);
+    for (size_t i = 0; i < list->count; i++)
+        print_lengths(width, &list->records[i]);
+    print_legend(list);
 }
 
 static void print_count(unsigned int count, const char *one, const char *many, const char *end)
@@ -198,24 +272,83 @@ static void print_count(unsigned int count, const char *one, const char *many, c
 static void print_sound(const struct options *options, const struct octets *table)
 {
     const struct table_records records = table_records(table);
+    const struct list list = make_list(&records, options->inner);
     printf("%s: sound: ", file_shown_name(options->table, "standard input"));
     print_count(records.entry_count, "entry", "entries", ", ");
     print_count(records.rule_count, "rule", "rules", ", ");
     print_count(records.policy_count, "policy", "policies", "\n");
-    if (records.entry_count + records.rule_count != 0)
-        print_lengths(&records, options->inner);
+    if (list.count != 0)
+        print_list(&list);
+}
+
+static void json_form(struct json *json, const struct lengths *lengths, const struct form *form)
+{
+    json_object(json, NULL);
+    json_signed(json, "octets", change(lengths, form));
+    json_number(json, "srv6", form->srv6);
+    if (form->letter != NULL) {
+        json_text(json, "letter", form->letter);
+        json_signed(json, "octets_each", -(int)form->each);
+        json_number(json, "srv6_each", form->each);
+    }
+    json_close(json);
+}
+
+static void json_lengths(struct json *json, const struct lengths *lengths)
+{
+    json_object(json, NULL);
+    table_json_record(json, &lengths->record);
+    if (lengths->form_count != 0)
+        json_number(json, "gtpu", lengths->gtpu);
+    json_array(json, "lengths");
+    for (size_t i = 0; i < lengths->form_count; i++)
+        json_form(json, lengths, &lengths->forms[i]);
+    json_close(json);
+    json_close(json);
+}
+
+static void json_sound(struct json *json, const struct octets *table, unsigned int inner)
+{
+    const struct table_records records = table_records(table);
+    const struct list list = make_list(&records, inner);
+    table_json_counts(json, &records);
+    json_number(json, "inner", inner);
+    json_array(json, "records");
+    for (size_t i = 0; i < list.count; i++)
+        json_lengths(json, &list.records[i]);
+    json_close(json);
+    if (list.largest != 0)
+        json_number(json, "mtu", list.largest);
+}
+
+static void json_table(const struct options *options, const struct octets *table, uint64_t fault)
+{
+    struct json json;
+    json_begin(&json, stdout, "check");
+    json_text(&json, "table", file_shown_name(options->table, "standard input"));
+    json_flag(&json, "sound", fault == 0);
+    if (fault == 0)
+        json_sound(&json, table, options->inner);
+    else
+        table_json_unsound(&json, table, fault);
+    json_end(&json);
 }
 
 int command_check(int argc, char **argv)
 {
-    struct options options = {NULL, INNER, false};
+    struct options options = {.inner = INNER};
     struct octets table;
+    uint64_t fault = 0;
     argp_parse(&argp, argc, argv, 0, NULL, &options);
-    const int code = table_read_sound(options.table, &table);
+    const int code = table_read(options.table, &table, &fault);
     if (code != EXIT_DONE)
         return code;
-    if (!options.quiet)
+    if (fault != 0)
+        table_say_unsound(options.table, &table, fault);
+    if (options.json)
+        json_table(&options, &table, fault);
+    else if (fault == 0 && !options.quiet)
         print_sound(&options, &table);
     free(table.at);
-    return EXIT_DONE;
+    return fault == 0 ? EXIT_DONE : EXIT_INPUT;
 }

@@ -4,9 +4,9 @@
 
 enum {
     EXIT_DONE = 0,
-    EXIT_INPUT = 1,  /* the input is bad; check: the table is not sound; match: one does not fit; trip: one did not arrive, or changed */
-    EXIT_USAGE = 2,  /* wrong options or arguments; an output that is an input */
-    EXIT_SYSTEM = 3  /* the system failed: cannot open, read or write */
+    EXIT_INPUT = 1, /* the input is bad; check: the table is not sound; match: one does not fit; trip: one did not arrive, or changed */
+    EXIT_USAGE = 2, /* wrong options or arguments; an output that is an input */
+    EXIT_SYSTEM = 3 /* the system failed: cannot open, read or write */
 };
 
 /* Each takes the arguments behind its name, with what is said of the program in messages as argv[0], and gives an exit code. */

@@ -6,6 +6,7 @@
 #include "formats.h"
 #include "kawsarpa.h"
 #include "octets.h"
+#include "words.h"
 
 enum { SRH_FRONT = 8, SEGMENT = 16, ROUTING_TYPE_SRH = 4 };
 
@@ -126,61 +127,80 @@ struct packet_reading packet_read(const uint8_t *packet, size_t length)
     return reading;
 }
 
-static void say_address(FILE *to, unsigned int version, const uint8_t *address)
+/* Room for an address of either version. */
+enum { ADDRESS_ROOM = INET6_ADDRSTRLEN };
+
+static const char *address_text(unsigned int version, const uint8_t *address, char text[ADDRESS_ROOM])
 {
-    char text[INET6_ADDRSTRLEN];
-    fputs(inet_ntop(version == 4 ? AF_INET : AF_INET6, address, text, sizeof text), to);
+    return inet_ntop(version == 4 ? AF_INET : AF_INET6, address, text, ADDRESS_ROOM);
 }
 
-/* The segments that are still to come, in order of travel. */
+/* How many segments are still to come; none where the packet says more than it has. */
+static size_t segments_to_come(const struct packet_reading *reading)
+{
+    return reading->segments_left > reading->segment_count ? 0 : reading->segments_left;
+}
+
+/* One of these, in order of travel from 0. */
+static const uint8_t *segment_to_come(const struct packet_reading *reading, size_t place)
+{
+    return reading->segments + SEGMENT * (reading->segments_left - 1 - place);
+}
+
+static const struct word insides[] = {
+    {NEXT_IPV4, "IPv4"},
+    {NEXT_IPV6, "IPv6"},
+    {NEXT_ETHERNET, "Ethernet"},
+    {0, NULL},
+};
+
+static const struct word messages[] = {
+    {G_PDU, "G-PDU"},
+    {END_MARKER, "End Marker"},
+    {ERROR_INDICATION, "Error Indication"},
+    {ECHO_REQUEST, "Echo Request"},
+    {ECHO_RESPONSE, "Echo Response"},
+    {0, NULL},
+};
+
+/* NULL where the number has no name here. */
+static const char *name_of(const struct word *words, unsigned int number)
+{
+    const struct word *word = word_numbered(words, number);
+    return word == NULL ? NULL : word->name;
+}
+
 static void say_segments(FILE *to, const struct packet_reading *reading)
 {
+    char address[ADDRESS_ROOM];
     fprintf(to, ", SL %u", reading->segments_left);
-    if (reading->segments_left > reading->segment_count)
-        return;
-    for (size_t i = reading->segments_left; i > 0; i--) {
-        fputs(i == reading->segments_left ? " then " : ", ", to);
-        say_address(to, 6, reading->segments + SEGMENT * (i - 1));
-    }
+    for (size_t i = 0; i < segments_to_come(reading); i++)
+        fprintf(to, "%s%s", i == 0 ? " then " : ", ", address_text(6, segment_to_come(reading, i), address));
 }
 
 static void say_next_header(FILE *to, unsigned int next_header)
 {
-    if (next_header == NEXT_IPV4)
-        fputs(", IPv4 inside", to);
-    else if (next_header == NEXT_IPV6)
-        fputs(", IPv6 inside", to);
-    else if (next_header == NEXT_ETHERNET)
-        fputs(", Ethernet inside", to);
+    const char *inside = name_of(insides, next_header);
+    if (inside != NULL)
+        fprintf(to, ", %s inside", inside);
     else
         fprintf(to, ", next header %u", next_header);
 }
 
-static void say_message_type(FILE *to, unsigned int type)
-{
-    const char *name = type == G_PDU              ? "G-PDU"
-                       : type == END_MARKER       ? "End Marker"
-                       : type == ERROR_INDICATION ? "Error Indication"
-                       : type == ECHO_REQUEST     ? "Echo Request"
-                       : type == ECHO_RESPONSE    ? "Echo Response"
-                                                  : NULL;
-    if (name != NULL)
-        fprintf(to, ", %s", name);
-    else
-        fprintf(to, ", GTP-U type %u", type);
-}
-
 static void say_gtpu(FILE *to, const struct packet_reading *reading)
 {
-    say_message_type(to, reading->message_type);
+    const char *message = name_of(messages, reading->message_type);
+    const char *direction = name_of(directions, reading->pdu_type);
+    if (message != NULL)
+        fprintf(to, ", %s", message);
+    else
+        fprintf(to, ", GTP-U type %u", reading->message_type);
     fprintf(to, ", TEID 0x%08x", (unsigned int)reading->teid);
     if (!reading->has_container)
         return;
     fprintf(to, ", QFI %u, R %u", reading->qfi, reading->reflective);
-    if (reading->pdu_type == KAWSARPA_DIRECTION_DOWNLINK)
-        fputs(", downlink", to);
-    else if (reading->pdu_type == KAWSARPA_DIRECTION_UPLINK)
-        fputs(", uplink", to);
+    if (direction != NULL)
+        fprintf(to, ", %s", direction);
     else
         fprintf(to, ", PDU type %u", reading->pdu_type);
 }
@@ -188,15 +208,14 @@ static void say_gtpu(FILE *to, const struct packet_reading *reading)
 void packet_describe(FILE *to, const uint8_t *packet, size_t length)
 {
     const struct packet_reading reading = packet_read(packet, length);
+    char source[ADDRESS_ROOM];
+    char destination[ADDRESS_ROOM];
     if (reading.version == 0) {
         fprintf(to, "%zu octets, no IP header", length);
         return;
     }
-    fprintf(to, "IPv%u ", reading.version);
-    say_address(to, reading.version, reading.source);
-    fputs(" > ", to);
-    say_address(to, reading.version, reading.destination);
-    fprintf(to, ", traffic class 0x%02x", reading.traffic_class);
+    fprintf(to, "IPv%u %s > %s, traffic class 0x%02x", reading.version, address_text(reading.version, reading.source, source),
+            address_text(reading.version, reading.destination, destination), reading.traffic_class);
     if (reading.has_srh)
         say_segments(to, &reading);
     if (reading.has_gtpu)
@@ -204,4 +223,58 @@ void packet_describe(FILE *to, const uint8_t *packet, size_t length)
     else
         say_next_header(to, reading.next_header);
     fprintf(to, ", %zu octets", length);
+}
+
+/* A number, and its name where it has one. */
+static void json_named(struct json *json, const char *number_key, unsigned int number, const char *text_key, const char *text)
+{
+    json_number(json, number_key, number);
+    if (text != NULL)
+        json_text(json, text_key, text);
+}
+
+static void json_segments(struct json *json, const struct packet_reading *reading)
+{
+    char address[ADDRESS_ROOM];
+    json_number(json, "segments_left", reading->segments_left);
+    json_array(json, "segments");
+    for (size_t i = 0; i < segments_to_come(reading); i++)
+        json_text(json, NULL, address_text(6, segment_to_come(reading, i), address));
+    json_close(json);
+}
+
+static void json_gtpu(struct json *json, const struct packet_reading *reading)
+{
+    json_named(json, "message_type", reading->message_type, "message", name_of(messages, reading->message_type));
+    json_number(json, "teid", reading->teid);
+    if (!reading->has_container)
+        return;
+    json_number(json, "qfi", reading->qfi);
+    json_flag(json, "reflective", reading->reflective != 0);
+    json_named(json, "pdu_type", reading->pdu_type, "direction", name_of(directions, reading->pdu_type));
+}
+
+static void json_reading(struct json *json, const struct packet_reading *reading)
+{
+    char address[ADDRESS_ROOM];
+    json_number(json, "version", reading->version);
+    json_text(json, "source", address_text(reading->version, reading->source, address));
+    json_text(json, "destination", address_text(reading->version, reading->destination, address));
+    json_number(json, "traffic_class", reading->traffic_class);
+    if (reading->has_srh)
+        json_segments(json, reading);
+    if (reading->has_gtpu)
+        json_gtpu(json, reading);
+    else
+        json_named(json, "next_header", reading->next_header, "inside", name_of(insides, reading->next_header));
+}
+
+void packet_json(struct json *json, const char *name, const uint8_t *packet, size_t length)
+{
+    const struct packet_reading reading = packet_read(packet, length);
+    json_object(json, name);
+    if (reading.version != 0)
+        json_reading(json, &reading);
+    json_number(json, "octets", length);
+    json_close(json);
 }

@@ -7,29 +7,31 @@
 #include <stdint.h>
 #include <stdio.h>
 
+#include "json.h"
+
 struct packet_reading {
-    unsigned int version;          /* 0: not even an IP header could be read, and nothing below is set */
+    unsigned int version; /* 0: not even an IP header could be read, and nothing below is set */
     size_t length;
     uint8_t traffic_class;
-    const uint8_t *source;         /* 4 or 16 octets */
+    const uint8_t *source; /* 4 or 16 octets */
     const uint8_t *destination;
-    unsigned int next_header;      /* behind the SRH, where there is one */
+    unsigned int next_header; /* behind the SRH, where there is one */
 
     bool has_srh;
     unsigned int segments_left;
-    size_t segment_count;          /* whole segments that are there */
-    const uint8_t *segments;       /* as they stand: the last one of the path first */
+    size_t segment_count;    /* whole segments that are there */
+    const uint8_t *segments; /* as they stand: the last one of the path first */
 
     bool has_gtpu;
     unsigned int message_type;
     uint32_t teid;
-    const uint8_t *inner;          /* behind the GTP-U header and its extensions; NULL where their end could not be found */
+    const uint8_t *inner; /* behind the GTP-U header and its extensions; NULL where their end could not be found */
     size_t inner_length;
 
-    bool has_container;            /* the PDU Session container */
-    unsigned int pdu_type;         /* 0 downlink, 1 uplink */
+    bool has_container;    /* the PDU Session container */
+    unsigned int pdu_type; /* 0 downlink, 1 uplink */
     unsigned int qfi;
-    unsigned int reflective;       /* R: only downlink has it */
+    unsigned int reflective; /* R: only downlink has it */
 };
 
 /* The reading points into the packet. */
@@ -37,5 +39,8 @@ struct packet_reading packet_read(const uint8_t *packet, size_t length);
 
 /* One line without its end. */
 void packet_describe(FILE *to, const uint8_t *packet, size_t length);
+
+/* The same as a JSON object. */
+void packet_json(struct json *json, const char *name, const uint8_t *packet, size_t length);
 
 #endif

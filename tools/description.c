@@ -28,16 +28,15 @@ static const cyaml_schema_value_t name_schema = {CYAML_VALUE_STRING(CYAML_FLAG_P
 static const cyaml_schema_field_t waypoint_fields[] = {
     TEXT("name", GIVEN, waypoint, name),
     TEXT("address", GIVEN | QUOTED, waypoint, address),
-    CYAML_FIELD_END
+    CYAML_FIELD_END,
 };
 
 static const cyaml_schema_field_t policy_fields[] = {
     TEXT("name", GIVEN, policy, name),
-    CYAML_FIELD_SEQUENCE("waypoints", NOT_ALWAYS | IN_A_LINE, struct policy_description, waypoints, &name_schema, 0,
-                         KAWSARPA_SIDS_MAX - 1),
+    CYAML_FIELD_SEQUENCE("waypoints", NOT_ALWAYS | IN_A_LINE, struct policy_description, waypoints, &name_schema, 0, KAWSARPA_SIDS_MAX - 1),
     TEXT("last-sid", GIVEN | QUOTED, policy, last_sid),
     TEXT("args-octet", GIVEN, policy, args_octet),
-    CYAML_FIELD_END
+    CYAML_FIELD_END,
 };
 
 static const cyaml_schema_field_t entry_fields[] = {
@@ -53,7 +52,7 @@ static const cyaml_schema_field_t entry_fields[] = {
     TEXT("p", NOT_ALWAYS, entry, p),
     TEXT("q", NOT_ALWAYS, entry, q),
     TEXT("source-port", NOT_ALWAYS, entry, source_port),
-    CYAML_FIELD_END
+    CYAML_FIELD_END,
 };
 
 static const cyaml_schema_field_t rule_fields[] = {
@@ -67,15 +66,15 @@ static const cyaml_schema_field_t rule_fields[] = {
     TEXT("sid-prefix", GIVEN | QUOTED, rule, sid_prefix),
     TEXT("source-prefix", GIVEN | QUOTED, rule, source_prefix),
     CYAML_FIELD_SEQUENCE("waypoints", NOT_ALWAYS | IN_A_LINE, struct rule_description, waypoints, &name_schema, 0, KAWSARPA_WAYPOINTS_MAX),
-    CYAML_FIELD_END
+    CYAML_FIELD_END,
 };
 
-#define RECORD(record) {CYAML_VALUE_MAPPING(CYAML_FLAG_DEFAULT, struct record##_description, record##_fields)}
+#define RECORD(record) CYAML_VALUE_MAPPING(CYAML_FLAG_DEFAULT, struct record##_description, record##_fields)
 
-static const cyaml_schema_value_t waypoint_schema = RECORD(waypoint);
-static const cyaml_schema_value_t policy_schema = RECORD(policy);
-static const cyaml_schema_value_t entry_schema = RECORD(entry);
-static const cyaml_schema_value_t rule_schema = RECORD(rule);
+static const cyaml_schema_value_t waypoint_schema = {RECORD(waypoint)};
+static const cyaml_schema_value_t policy_schema = {RECORD(policy)};
+static const cyaml_schema_value_t entry_schema = {RECORD(entry)};
+static const cyaml_schema_value_t rule_schema = {RECORD(rule)};
 
 #define LIST(member, record, most) CYAML_FIELD_SEQUENCE(#member, NOT_ALWAYS, struct description, member, &record##_schema, 0, most)
 
@@ -85,7 +84,7 @@ static const cyaml_schema_field_t description_fields[] = {
     LIST(policies, policy, KAWSARPA_POLICIES_MAX),
     LIST(entries, entry, KAWSARPA_ENTRIES_MAX),
     LIST(rules, rule, KAWSARPA_RULES_MAX),
-    CYAML_FIELD_END
+    CYAML_FIELD_END,
 };
 
 static const cyaml_schema_value_t description_schema = {CYAML_VALUE_MAPPING(CYAML_FLAG_POINTER, struct description, description_fields)};

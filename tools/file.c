@@ -14,14 +14,14 @@
 
 static const char SUFFIX[] = ".XXXXXX";
 
-static bool is_standard(const char *name)
+bool file_is_standard(const char *name)
 {
-    return strcmp(name, "-") == 0;
+    return name != NULL && strcmp(name, "-") == 0;
 }
 
 const char *file_shown_name(const char *name, const char *standard_stream)
 {
-    return is_standard(name) ? standard_stream : name;
+    return file_is_standard(name) ? standard_stream : name;
 }
 
 void file_hold_standard(void)
@@ -64,7 +64,7 @@ bool file_is_gzip(int first, int second)
 int file_read(const char *name, size_t most, struct octets *octets)
 {
     const char *shown = file_shown_name(name, "standard input");
-    const int descriptor = is_standard(name) ? STDIN_FILENO : open(name, O_RDONLY | O_CLOEXEC);
+    const int descriptor = file_is_standard(name) ? STDIN_FILENO : open(name, O_RDONLY | O_CLOEXEC);
     int code = EXIT_SYSTEM;
     *octets = (struct octets){NULL, 0};
     if (descriptor < 0 || !read_all(descriptor, most, octets))
@@ -90,7 +90,7 @@ bool file_standard_twice(const char *const *names, size_t count)
 {
     size_t found = 0;
     for (size_t i = 0; i < count; i++)
-        found += is_standard(names[i]);
+        found += file_is_standard(names[i]);
     if (found > 1)
         say_error("standard input can be read once: `-' stands for %zu inputs", found);
     return found > 1;
@@ -101,7 +101,7 @@ static bool fault_said;
 /* Whether a name is that of a regular file, and which; "-" is what a standard stream was redirected to. */
 static bool find_regular(const char *name, int standard_stream, struct stat *status)
 {
-    const int found = is_standard(name) ? fstat(standard_stream, status) : stat(name, status);
+    const int found = file_is_standard(name) ? fstat(standard_stream, status) : stat(name, status);
     return found == 0 && S_ISREG(status->st_mode);
 }
 
@@ -228,7 +228,7 @@ static void forget_names(struct output *output)
 int output_open(struct output *output, const char *name)
 {
     *output = (struct output){file_shown_name(name, "standard output"), NULL, NULL, NULL};
-    if (is_standard(name))
+    if (file_is_standard(name))
         output->file = stdout;
     else if (in_place(name))
         output->file = fopen(name, "wb");

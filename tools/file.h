@@ -15,6 +15,9 @@ struct octets {
 /* Takes the places of standard streams that are closed, so that no file gets them; to use one of them fails. */
 void file_hold_standard(void);
 
+/* Whether a name is "-"; NULL is none. */
+bool file_is_standard(const char *name);
+
 /* How a file is called in messages. */
 const char *file_shown_name(const char *name, const char *standard_stream);
 

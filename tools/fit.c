@@ -24,7 +24,7 @@ static struct fit_waypoint judge_waypoint(const struct fit_way *way, unsigned in
 static void judge_waypoints(const struct fit_way *way, struct fit_record *record, const uint8_t sids[][16], unsigned int count)
 {
     record->waypoint_count = count;
-    if (way->in_order && count != way->via_count)
+    if (!fit_waypoints_judged(way, record))
         return;
     for (unsigned int i = 0; i < count; i++)
         record->waypoints[i] = judge_waypoint(way, i, sids[i]);
@@ -75,12 +75,80 @@ bool fit_record_asked(const struct fit_record *record)
 
 bool fit_record_fits(const struct fit_way *way, const struct fit_record *record)
 {
-    if (record->mismatch != 0 || (way->in_order && record->waypoint_count != way->via_count))
+    if (record->mismatch != 0 || !fit_waypoints_judged(way, record))
         return false;
     for (unsigned int i = 0; i < record->waypoint_count; i++)
-        if (record->waypoints[i].via == NULL || record->waypoints[i].mismatch != 0)
+        if (!fit_waypoint_fits(&record->waypoints[i]))
             return false;
     return true;
+}
+
+bool fit_names_entry(uint64_t mismatch)
+{
+    return kawsarpa_mismatch_record(mismatch) == KAWSARPA_RECORD_ENTRY;
+}
+
+bool fit_record_reaches(const struct fit_record *record)
+{
+    return record->has_far && (record->mismatch == 0 || fit_names_entry(record->mismatch));
+}
+
+bool fit_waypoints_judged(const struct fit_way *way, const struct fit_record *record)
+{
+    return !way->in_order || record->waypoint_count == way->via_count;
+}
+
+bool fit_waypoint_fits(const struct fit_waypoint *waypoint)
+{
+    return waypoint->via != NULL && waypoint->mismatch == 0;
+}
+
+bool fit_one_asked(const struct fit_way *way)
+{
+    return way->in_order || way->via_count == 1;
+}
+
+static struct fit_values rule_values(const struct table_records *near, const struct fit_record *record)
+{
+    const struct kawsarpa_rule *rule = &near->rules[record->index];
+    struct fit_values values = {
+        .is_rule = true,
+        .sid = rule->sid_prefix,
+        .p = rule->p,
+        .q = rule->q,
+        .direction = rule->direction,
+        .session_type = rule->session_type,
+        .hop_limit = rule->hop_limit,
+        .waypoint_count = record->waypoint_count,
+    };
+    rule_prefix_text(rule, values.prefix);
+    return values;
+}
+
+static struct fit_values entry_values(const struct table_records *near, const struct fit_record *record)
+{
+    const struct kawsarpa_entry *entry = &near->entries[record->index];
+    const struct kawsarpa_policy *policy = &near->policies[entry->policy];
+    return (struct fit_values){
+        .policy = entry->policy + 1U,
+        .sid = policy->sids[policy->sid_count - 1],
+        .args_octet = policy->args_start / 8,
+        .direction = entry->direction,
+        .session_type = entry->session_type,
+        .hop_limit = entry->hop_limit,
+        .waypoint_count = record->waypoint_count,
+    };
+}
+
+struct fit_values fit_values(const struct fit_way *way, const struct fit_record *record)
+{
+    const struct table_records near = table_records(&way->near->table);
+    return (record->kind == KAWSARPA_RECORD_RULE ? rule_values : entry_values)(&near, record);
+}
+
+const char *fit_far_behaviour(const struct fit_values *near)
+{
+    return near->is_rule ? "End.M.GTP4.E" : "End.M.GTP6.E";
 }
 
 static void add(struct fit *fit, const struct fit_way *way, const struct fit_record *record)

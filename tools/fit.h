@@ -8,8 +8,10 @@
 #include <stdint.h>
 #include <stdio.h>
 
+#include "json.h"
 #include "kawsarpa.h"
 #include "stop.h"
+#include "table.h"
 
 /* Args.Mob.Session (RFC 9433, section 6.1). */
 enum { FIT_ARGS_OCTETS = 5 };
@@ -54,7 +56,43 @@ struct fit fit_judge(const struct fit_way *way);
 bool fit_record_asked(const struct fit_record *record);
 bool fit_record_fits(const struct fit_way *way, const struct fit_record *record);
 
+/* Whether the far entry to which the record leads is known. */
+bool fit_record_reaches(const struct fit_record *record);
+
+/* False: in order, and there are not as many tables as waypoints. */
+bool fit_waypoints_judged(const struct fit_way *way, const struct fit_record *record);
+bool fit_waypoint_fits(const struct fit_waypoint *waypoint);
+
+/* Whether a waypoint that nothing matches was looked for in one table alone. */
+bool fit_one_asked(const struct fit_way *way);
+
+/* Whether a mismatch names an entry of the table that was asked. */
+bool fit_names_entry(uint64_t mismatch);
+
+/* What is told of a near entry with its policy, or of a near rule. */
+struct fit_values {
+    bool is_rule;
+    unsigned int policy; /* from 1 */
+    const uint8_t *sid;  /* the policy's last SID; the rule's SID prefix */
+    uint8_t args_octet;  /* of the policy */
+    uint8_t p, q;        /* of the rule */
+    uint8_t direction, session_type, hop_limit;
+    unsigned int waypoint_count;
+    char prefix[PREFIX_ROOM]; /* of the rule */
+};
+
+struct fit_values fit_values(const struct fit_way *way, const struct fit_record *record);
+
+/* The behaviour that the far entry has to have. */
+const char *fit_far_behaviour(const struct fit_values *near);
+
 /* One line where the record fits, else one for each thing that does not. */
 void fit_say_record(FILE *to, const struct fit_way *way, const struct fit_record *record);
+
+/* A JSON object about all records of a way. */
+void fit_json(struct json *json, const char *name, const struct fit_way *way, const struct fit *fit);
+
+/* Members of one: how many of how many fit. */
+void fit_json_counts(struct json *json, unsigned int fitting, unsigned int asked, unsigned int waypoints_only);
 
 #endif

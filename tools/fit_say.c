@@ -5,51 +5,7 @@
 #include "table.h"
 #include "words.h"
 
-/* What is told of a near entry with its policy, or of a near rule. */
-struct near_values {
-    bool is_rule;
-    unsigned int policy; /* from 1 */
-    const uint8_t *sid;  /* the policy's last SID; the rule's SID prefix */
-    uint8_t args_octet;  /* of the policy */
-    uint8_t p, q;        /* of the rule */
-    uint8_t direction, session_type, hop_limit;
-    unsigned int waypoint_count;
-    char prefix[PREFIX_ROOM]; /* of the rule */
-};
-
-static struct near_values rule_values(const struct table_records *near, const struct fit_record *record)
-{
-    const struct kawsarpa_rule *rule = &near->rules[record->index];
-    struct near_values values = {
-        .is_rule = true,
-        .sid = rule->sid_prefix,
-        .p = rule->p,
-        .q = rule->q,
-        .direction = rule->direction,
-        .session_type = rule->session_type,
-        .hop_limit = rule->hop_limit,
-        .waypoint_count = record->waypoint_count,
-    };
-    rule_prefix_text(rule, values.prefix);
-    return values;
-}
-
-static struct near_values entry_values(const struct table_records *near, const struct fit_record *record)
-{
-    const struct kawsarpa_entry *entry = &near->entries[record->index];
-    const struct kawsarpa_policy *policy = &near->policies[entry->policy];
-    return (struct near_values){
-        .policy = entry->policy + 1U,
-        .sid = policy->sids[policy->sid_count - 1],
-        .args_octet = policy->args_start / 8,
-        .direction = entry->direction,
-        .session_type = entry->session_type,
-        .hop_limit = entry->hop_limit,
-        .waypoint_count = record->waypoint_count,
-    };
-}
-
-static const char *near_name(const struct near_values *near)
+static const char *near_name(const struct fit_values *near)
 {
     return near->is_rule ? "rule" : "entry";
 }
@@ -73,7 +29,7 @@ static void say_near_and_far(FILE *to, const struct fit_way *way, const struct f
 }
 
 /* The SIDs that a near record sends, with "any" or "some" of what packets bring. */
-static void say_sids(FILE *to, const struct near_values *near, const char *which)
+static void say_sids(FILE *to, const struct fit_values *near, const char *which)
 {
     char sid[INET6_ADDRSTRLEN] = "";
     inet_ntop(AF_INET6, near->sid, sid, sizeof sid);
@@ -85,13 +41,13 @@ static void say_sids(FILE *to, const struct near_values *near, const char *which
                 near->args_octet + FIT_ARGS_OCTETS - 1U);
 }
 
-static void say_both_words(FILE *to, const struct near_values *near, const struct word *words, uint8_t at_near, uint8_t at_far)
+static void say_both_words(FILE *to, const struct fit_values *near, const struct word *words, uint8_t at_near, uint8_t at_far)
 {
     fprintf(to, ": %s in the near %s, %s in the far entry", word_numbered(words, at_near)->name, near_name(near),
             word_numbered(words, at_far)->name);
 }
 
-static void say_hop_limit(FILE *to, const struct near_values *near)
+static void say_hop_limit(FILE *to, const struct fit_values *near)
 {
     fprintf(to, ": hop limit %u in the near %s, %u waypoint%s in ", near->hop_limit, near_name(near), near->waypoint_count,
             near->waypoint_count == 1 ? "" : "s");
@@ -102,7 +58,7 @@ static void say_hop_limit(FILE *to, const struct near_values *near)
 }
 
 /* Both values of a condition that fails; the far entry is there where the library names one. */
-static void say_values(FILE *to, unsigned int condition, const struct near_values *near, const struct kawsarpa_entry *far)
+static void say_values(FILE *to, unsigned int condition, const struct fit_values *near, const struct kawsarpa_entry *far)
 {
     switch (condition) {
     case KAWSARPA_MISMATCH_NO_ENTRY:
@@ -110,8 +66,7 @@ static void say_values(FILE *to, unsigned int condition, const struct near_value
         say_sids(to, near, "any");
         break;
     case KAWSARPA_MISMATCH_KIND:
-        fprintf(to, ": %s, not %s, takes ", word_numbered(behaviours, far->behaviour)->name,
-                near->is_rule ? "End.M.GTP4.E" : "End.M.GTP6.E");
+        fprintf(to, ": %s, not %s, takes ", word_numbered(behaviours, far->behaviour)->name, fit_far_behaviour(near));
         say_sids(to, near, "some");
         break;
     case KAWSARPA_MISMATCH_DIRECTION:
@@ -144,11 +99,9 @@ static void say_condition(FILE *to, uint64_t mismatch)
 
 static void say_mismatch(FILE *to, const struct fit_way *way, const struct fit_record *record)
 {
-    const bool named = kawsarpa_mismatch_record(record->mismatch) == KAWSARPA_RECORD_ENTRY;
-    const struct table_records near = table_records(&way->near->table);
     const struct table_records far = table_records(&way->far->table);
-    const struct near_values values = (record->kind == KAWSARPA_RECORD_RULE ? rule_values : entry_values)(&near, record);
-    (named ? say_near_and_far : say_near)(to, way, record);
+    const struct fit_values values = fit_values(way, record);
+    (fit_record_reaches(record) ? say_near_and_far : say_near)(to, way, record);
     say_condition(to, record->mismatch);
     say_values(to, kawsarpa_mismatch_condition(record->mismatch), &values, far.entries + record->reached);
     fputc('\n', to);
@@ -166,11 +119,11 @@ static void say_waypoint(FILE *to, const struct fit_way *way, const struct fit_r
         return;
     }
     say_condition(to, waypoint->mismatch);
-    if (kawsarpa_mismatch_record(waypoint->mismatch) == KAWSARPA_RECORD_ENTRY) {
+    if (fit_names_entry(waypoint->mismatch)) {
         fputs(": ", to);
         say_entry(to, waypoint->via, kawsarpa_mismatch_index(waypoint->mismatch));
         fprintf(to, " of %s\n", waypoint->via->name);
-    } else if (way->in_order || way->via_count == 1)
+    } else if (fit_one_asked(way))
         fprintf(to, ": not in %s\n", waypoint->via->name);
     else
         fprintf(to, ": in none of the %zu --via tables\n", way->via_count);
@@ -185,7 +138,7 @@ static void say_waypoint_count(FILE *to, const struct fit_way *way, const struct
 
 static void say_fits(FILE *to, const struct fit_way *way, const struct fit_record *record)
 {
-    (record->has_far ? say_near_and_far : say_near)(to, way, record);
+    (fit_record_reaches(record) ? say_near_and_far : say_near)(to, way, record);
     fputs(record->waypoint_count == 0 ? ": fits, with no waypoint" : ": fits, via ", to);
     for (unsigned int i = 0; i < record->waypoint_count; i++)
         fprintf(to, "%s%s", i == 0 ? "" : ", ", record->waypoints[i].via->name);
@@ -197,12 +150,12 @@ static void say_faults(FILE *to, const struct fit_way *way, const struct fit_rec
 {
     if (record->mismatch != 0)
         say_mismatch(to, way, record);
-    if (way->in_order && record->waypoint_count != way->via_count) {
+    if (!fit_waypoints_judged(way, record)) {
         say_waypoint_count(to, way, record);
         return;
     }
     for (unsigned int i = 0; i < record->waypoint_count; i++)
-        if (record->waypoints[i].via == NULL || record->waypoints[i].mismatch != 0)
+        if (!fit_waypoint_fits(&record->waypoints[i]))
             say_waypoint(to, way, record, i);
 }
 

@@ -24,13 +24,13 @@ static const struct {
 } wrappings[FRAME_WRAPPINGS] = {
     [FRAME_PLAIN] = {0, ""},
     [FRAME_LLC_SNAP] = {0, "LLC/SNAP"},
-    [FRAME_MPLS] = {0x8847, "0x8847 MPLS"},
-    [FRAME_MPLS_MULTICAST] = {0x8848, "0x8848 MPLS multicast"},
-    [FRAME_PPPOE] = {0x8864, "0x8864 PPPoE session"},
-    [FRAME_MACSEC] = {0x88E5, "0x88e5 MACsec"},
-    [FRAME_BACKBONE] = {0x88E7, "0x88e7 provider backbone bridge"},
-    [FRAME_VN_TAG] = {0x8926, "0x8926 VN-Tag"},
-    [FRAME_NSH] = {0x894F, "0x894f NSH"},
+    [FRAME_MPLS] = {0x8847, "MPLS"},
+    [FRAME_MPLS_MULTICAST] = {0x8848, "MPLS multicast"},
+    [FRAME_PPPOE] = {0x8864, "PPPoE session"},
+    [FRAME_MACSEC] = {0x88E5, "MACsec"},
+    [FRAME_BACKBONE] = {0x88E7, "provider backbone bridge"},
+    [FRAME_VN_TAG] = {0x8926, "VN-Tag"},
+    [FRAME_NSH] = {0x894F, "NSH"},
 };
 
 /* DLT_RAW has another number on OpenBSD, and its captures bear it. */
@@ -116,6 +116,11 @@ static enum frame_wrapping find_wrapping(unsigned int ethertype, const uint8_t *
         if (wrappings[i].ethertype == ethertype)
             return i;
     return FRAME_PLAIN;
+}
+
+unsigned int frame_wrapping_ethertype(enum frame_wrapping wrapping)
+{
+    return wrappings[wrapping].ethertype;
 }
 
 const char *frame_wrapping_name(enum frame_wrapping wrapping)

@@ -24,14 +24,15 @@ struct frame {
     unsigned int version;  /* 4 or 6, as the link says, else by the first nibble; 0: no IP packet is in the frame */
     const uint8_t *packet; /* a part of the octets that were given */
     size_t length;
-    size_t padding;        /* octets behind the packet's own length, which are not part of it */
+    size_t padding; /* octets behind the packet's own length, which are not part of it */
     enum frame_wrapping wrapping;
 };
 
 /* Whether frames of this link type (libpcap's DLT) can be read. */
 bool frame_link_known(int link);
 
-/* Its EtherType and name: "0x8847 MPLS". */
+/* Its EtherType, or 0 where it has none, and its name: 0x8847, "MPLS". */
+unsigned int frame_wrapping_ethertype(enum frame_wrapping wrapping);
 const char *frame_wrapping_name(enum frame_wrapping wrapping);
 
 struct frame frame_read(int link, const uint8_t *octets, size_t length);

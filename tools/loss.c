@@ -4,77 +4,25 @@
 #include <stdbool.h>
 #include <stdint.h>
 #include <stdio.h>
-#include <stdlib.h>
-#include <string.h>
 
 #include "capture.h"
 #include "commands.h"
 #include "kawsarpa.h"
 #include "options.h"
 #include "progress.h"
+#include "rows.h"
 #include "sequence.h"
 
 struct arguments {
     const char *in;
     bool csv;
-};
-
-/* Where the packets of a row go. The receiver chooses its TEIDs, so with two addresses under one TEID the row may mix two streams. */
-struct destination {
-    unsigned int version;
-    uint8_t address[16];
-    bool several;
+    bool json;
 };
 
 struct run {
     struct capture_reader reader;
-    struct kawsarpa_loss_row rows[KAWSARPA_LOSS_ROWS_MAX];
-    struct destination destinations[KAWSARPA_LOSS_ROWS_MAX]; /* of the row at the same place */
-    unsigned long not_counted[UINT8_MAX + 1]; /* packets by answer number, or by SEQUENCE_NO_S */
+    struct rows rows;
 };
-
-/* The place of a row that has counted: such rows stand before the free ones. */
-static size_t place_of(const struct run *run, uint32_t teid)
-{
-    size_t at = 0;
-    while (run->rows[at].teid != teid)
-        at++;
-    return at;
-}
-
-static void note_destination(struct run *run, const struct capture_packet *packet, uint32_t teid)
-{
-    const uint8_t *address = packet->octets + (packet->version == 4 ? 16 : 24);
-    const size_t size = packet->version == 4 ? 4 : 16;
-    const size_t at = place_of(run, teid);
-    struct destination *known = &run->destinations[at];
-    if (run->rows[at].seen == 1) {
-        known->version = packet->version;
-        memcpy(known->address, address, size);
-    } else if (known->version != packet->version || memcmp(known->address, address, size) != 0) {
-        known->several = true;
-    }
-}
-
-static void offer(struct run *run, const struct capture_packet *packet, uint64_t sequence)
-{
-    const uint32_t teid = kawsarpa_sequence_teid(sequence);
-    const uint64_t answer = kawsarpa_loss_offer(run->rows, KAWSARPA_LOSS_ROWS_MAX, teid, kawsarpa_sequence_number(sequence));
-    const unsigned int number = kawsarpa_answer_number(answer);
-    if (number == 0)
-        note_destination(run, packet, teid);
-    else
-        run->not_counted[number]++;
-}
-
-static void take_packet(struct run *run, const struct capture_packet *packet)
-{
-    const uint64_t sequence = sequence_read(packet->version, packet->octets, packet->length);
-    if (kawsarpa_sequence_found(sequence))
-        offer(run, packet, sequence);
-    else
-        run->not_counted[sequence_missing(packet->version, packet->octets, packet->length)]++;
-}
 
 /* All packets in the order of the capture; the exit code. */
 static int take_all(struct run *run)
@@ -82,41 +30,11 @@ static int take_all(struct run *run)
     struct capture_packet packet;
     struct progress progress = progress_begin(true);
     while (capture_next(&run->reader, &packet)) {
-        take_packet(run, &packet);
+        rows_take(&run->rows, &packet);
         progress_at(&progress, packet.number);
     }
     progress_end(&progress);
     return run->reader.code;
-}
-
-/* What the report says of a TEID. */
-struct line {
-    struct kawsarpa_loss_row row;
-    bool several_destinations;
-};
-
-struct report {
-    struct line lines[KAWSARPA_LOSS_ROWS_MAX];
-    size_t count;
-};
-
-/* Most lost first, then the lower TEID. */
-static int compare(const void *left, const void *right)
-{
-    const struct kawsarpa_loss_row *a = &((const struct line *)left)->row;
-    const struct kawsarpa_loss_row *b = &((const struct line *)right)->row;
-    if (a->lost != b->lost)
-        return a->lost > b->lost ? -1 : 1;
-    return (a->teid > b->teid) - (a->teid < b->teid);
-}
-
-static struct report make_report(const struct run *run)
-{
-    struct report report = {.count = 0};
-    for (size_t i = 0; i < KAWSARPA_LOSS_ROWS_MAX && run->rows[i].seen != 0; i++)
-        report.lines[report.count++] = (struct line){run->rows[i], run->destinations[i].several};
-    qsort(report.lines, report.count, sizeof report.lines[0], compare);
-    return report;
 }
 
 static double percent(uint64_t lost, uint64_t new)
@@ -144,72 +62,108 @@ static void print_csv(const struct report *report)
     }
 }
 
+/* The packets of a row, or of all rows. */
+struct counts {
+    uint64_t seen, new, repeated, late, lost;
+};
+
+static struct counts row_counts(const struct kawsarpa_loss_row *row)
+{
+    return (struct counts){row->seen, row->new, row->repeated, row->late, row->lost};
+}
+
+static struct counts sum(const struct report *report)
+{
+    struct counts sum = {0, 0, 0, 0, 0};
+    for (size_t i = 0; i < report->count; i++) {
+        const struct counts row = row_counts(&report->lines[i].row);
+        sum.seen += row.seen;
+        sum.new += row.new;
+        sum.repeated += row.repeated;
+        sum.late += row.late;
+        sum.lost += row.lost;
+    }
+    return sum;
+}
+
 static void say_totals(FILE *to, const struct report *report)
 {
+    const struct counts all = sum(report);
     if (report->count == 0) {
         fputs("TEIDs 0: no sequence number was read\n", to);
         return;
     }
-    uint64_t seen = 0, new = 0, repeated = 0, late = 0, lost = 0;
-    for (size_t i = 0; i < report->count; i++) {
-        const struct kawsarpa_loss_row *row = &report->lines[i].row;
-        seen += row->seen;
-        new += row->new;
-        repeated += row->repeated;
-        late += row->late;
-        lost += row->lost;
-    }
-    fprintf(to, "TEIDs %zu, worst first by lost, then by TEID: seen %" PRIu64 ", new %" PRIu64 ", repeated %" PRIu64 ", late %" PRIu64
-            ", lost %" PRIu64 ", %.4f %% of new + lost\n", report->count, seen, new, repeated, late, lost, percent(lost, new));
+    fprintf(to,
+            "TEIDs %zu, worst first by lost, then by TEID: seen %" PRIu64 ", new %" PRIu64 ", repeated %" PRIu64 ", late %" PRIu64
+            ", lost %" PRIu64 ", %.4f %% of new + lost\n",
+            report->count, all.seen, all.new, all.repeated, all.late, all.lost, percent(all.lost, all.new));
 }
 
-/* What an answer number means for a packet that was not counted. */
+/* What it means for a packet that was not counted: an answer number, or SEQUENCE_NO_S. */
 static const char *meaning(unsigned int number)
 {
     switch (number) {
+    case SEQUENCE_NO_S:
+        return "G-PDUs without a sequence number";
     case KAWSARPA_ANSWER_MALFORMED:
-        return ": cut short, of another IP version, or its length is wrong";
+        return "cut short, of another IP version, or its length is wrong";
     case KAWSARPA_ANSWER_BAD_HEADER4:
-        return ": a fragment, options, or a wrong checksum";
+        return "a fragment, options, or a wrong checksum";
     case KAWSARPA_ANSWER_BAD_CHAIN:
-        return ": a fragment, options, a second routing header, or one that is not a whole SRH";
+        return "a fragment, options, a second routing header, or one that is not a whole SRH";
     case KAWSARPA_ANSWER_SEGMENTS_LEFT:
-        return ": an SRH with segments left, so on its way to another stop";
+        return "an SRH with segments left, so on its way to another stop";
     case KAWSARPA_ANSWER_UPPER_LAYER:
-        return ": not UDP to port 2152, the port of GTP-U";
+        return "not UDP to port 2152, the port of GTP-U";
     case KAWSARPA_ANSWER_BAD_UDP:
-        return ": cut short, or its length is wrong";
+        return "cut short, or its length is wrong";
     case KAWSARPA_ANSWER_BAD_GTPU:
-        return ": cut short, not version 1, GTP', or its length is wrong";
+        return "cut short, not version 1, GTP', or its length is wrong";
     case KAWSARPA_ANSWER_NOT_G_PDU:
-        return ": Echo, End Marker, Error Indication and so on";
+        return "Echo, End Marker, Error Indication and so on";
     case KAWSARPA_ANSWER_NO_ROW:
-        return ": 256 other TEIDs have the rows";
+        return "256 other TEIDs have the rows";
     case KAWSARPA_ANSWER_ROW_FULL:
-        return ": the row has seen 4,294,967,295";
-    default:
+        return "the row has seen 4,294,967,295";
+    default: /* the library gives no other */
         return "";
     }
 }
 
-static void say_not_counted(FILE *to, const struct run *run)
+static const char *reason_name(unsigned int number)
 {
-    const unsigned long *packets = run->not_counted;
+    return number == SEQUENCE_NO_S ? "no S" : kawsarpa_answer_name(number);
+}
+
+static unsigned long all_not_counted(const struct run *run)
+{
     unsigned long all = 0;
     for (unsigned int number = 0; number <= UINT8_MAX; number++)
-        all += packets[number];
+        all += run->rows.not_counted[number];
+    return all;
+}
+
+static void say_not_counted(FILE *to, const struct run *run)
+{
+    const unsigned long *packets = run->rows.not_counted;
+    const unsigned long all = all_not_counted(run);
     fprintf(to, "not counted %lu of %lu IP packets%s\n", all, run->reader.counts.packets, all == 0 ? "" : ":");
-    if (packets[SEQUENCE_NO_S] > 0)
-        fprintf(to, "%8lu     no S: G-PDUs without a sequence number\n", packets[SEQUENCE_NO_S]);
-    for (unsigned int number = 1; number <= UINT8_MAX; number++)
-        if (packets[number] > 0)
-            fprintf(to, "%8lu  %2u %s%s\n", packets[number], number, kawsarpa_answer_name(number), meaning(number));
+    for (unsigned int number = 0; number <= UINT8_MAX; number++) {
+        if (packets[number] == 0)
+            continue;
+        fprintf(to, "%8lu  ", packets[number]);
+        if (number == SEQUENCE_NO_S)
+            fputs("  ", to);
+        else
+            fprintf(to, "%2u", number);
+        fprintf(to, " %s: %s\n", reason_name(number), meaning(number));
+    }
 }
 
 /* Packets that may have had a number, which then is missing in its row. */
 static unsigned long unreadable(const struct run *run)
 {
-    const unsigned long *packets = run->not_counted;
+    const unsigned long *packets = run->rows.not_counted;
     return run->reader.counts.snapped + packets[KAWSARPA_ANSWER_MALFORMED] + packets[KAWSARPA_ANSWER_BAD_HEADER4] +
            packets[KAWSARPA_ANSWER_BAD_CHAIN] + packets[KAWSARPA_ANSWER_BAD_UDP] + packets[KAWSARPA_ANSWER_BAD_GTPU];
 }
@@ -230,13 +184,84 @@ static void say_account(FILE *to, const struct run *run, const struct report *re
     capture_say_counts(to, &run->reader.counts);
     say_not_counted(to, run);
     if (unreadable(run) > 0)
-        fprintf(to, "unreadable %lu (snapped, 2, 3, 5, 9 and 10): a number in such a packet is not offered, and counts as lost in its "
-                "row\n", unreadable(run));
+        fprintf(to,
+                "unreadable %lu (snapped, 2, 3, 5, 9 and 10): a number in such a packet is not offered, and counts as lost in its "
+                "row\n",
+                unreadable(run));
     say_several_destinations(to, report);
 }
 
+static void json_counts(struct json *json, const struct counts *counts)
+{
+    json_number(json, "seen", counts->seen);
+    json_number(json, "new", counts->new);
+    json_number(json, "repeated", counts->repeated);
+    json_number(json, "late", counts->late);
+    json_number(json, "lost", counts->lost);
+    if (counts->new + counts->lost != 0)
+        json_percent(json, "lost_percent", percent(counts->lost, counts->new));
+}
+
+static void json_rows(struct json *json, const struct report *report)
+{
+    json_array(json, "rows");
+    for (size_t i = 0; i < report->count; i++) {
+        const struct kawsarpa_loss_row *row = &report->lines[i].row;
+        const struct counts counts = row_counts(row);
+        json_object(json, NULL);
+        json_number(json, "teid", row->teid);
+        json_number(json, "first", row->first);
+        json_number(json, "highest", row->highest);
+        json_counts(json, &counts);
+        json_flag(json, "several_destinations", report->lines[i].several_destinations);
+        json_close(json);
+    }
+    json_close(json);
+}
+
+static void json_totals(struct json *json, const struct report *report)
+{
+    const struct counts all = sum(report);
+    json_object(json, "totals");
+    json_number(json, "teids", report->count);
+    json_counts(json, &all);
+    json_close(json);
+}
+
+static void json_not_counted(struct json *json, const struct run *run)
+{
+    json_object(json, "not_counted");
+    json_number(json, "packets", all_not_counted(run));
+    json_array(json, "reasons");
+    for (unsigned int number = 0; number <= UINT8_MAX; number++) {
+        if (run->rows.not_counted[number] == 0)
+            continue;
+        json_object(json, NULL);
+        if (number != SEQUENCE_NO_S)
+            json_number(json, "number", number);
+        json_text(json, "name", reason_name(number));
+        json_text(json, "meaning", meaning(number));
+        json_number(json, "packets", run->rows.not_counted[number]);
+        json_close(json);
+    }
+    json_close(json);
+    json_close(json);
+}
+
+static void json_report(const struct run *run, const struct report *report)
+{
+    struct json json;
+    json_begin(&json, stdout, "loss");
+    json_rows(&json, report);
+    json_totals(&json, report);
+    capture_json(&json, &run->reader);
+    json_not_counted(&json, run);
+    json_number(&json, "unreadable", unreadable(run));
+    json_end(&json);
+}
+
 /* Options without a short name have numbers past those of characters. */
-enum { OPTION_CSV = 256 };
+enum { OPTION_CSV = 256, OPTION_JSON };
 
 static error_t parse(int key, char *value, struct argp_state *state)
 {
@@ -244,6 +269,9 @@ static error_t parse(int key, char *value, struct argp_state *state)
     switch (key) {
     case OPTION_CSV:
         arguments->csv = true;
+        return 0;
+    case OPTION_JSON:
+        arguments->json = true;
         return 0;
     case ARGP_KEY_ARG:
         if (arguments->in != NULL)
@@ -253,6 +281,9 @@ static error_t parse(int key, char *value, struct argp_state *state)
     case ARGP_KEY_NO_ARGS:
         argp_error(state, "a capture is needed");
         return 0;
+    case ARGP_KEY_END:
+        options_exclude(state, arguments->json, "--json", arguments->csv, "--csv");
+        return 0;
     default:
         return ARGP_ERR_UNKNOWN;
     }
@@ -260,6 +291,7 @@ static error_t parse(int key, char *value, struct argp_state *state)
 
 static const struct argp_option option_list[] = {
     {"csv", OPTION_CSV, NULL, 0, "print the rows as comma-separated values; what was not counted then goes to standard error", 0},
+    {"json", OPTION_JSON, NULL, 0, json_option_words, 0},
     {NULL, 0, NULL, 0, NULL, 0},
 };
 
@@ -278,8 +310,8 @@ static const struct argp argp = {option_list, parse, "IN.pcap", words, shared_op
 
 int command_loss(int argc, char **argv)
 {
-    struct arguments arguments = {NULL, false};
-    struct run run = {.not_counted = {0}};
+    struct arguments arguments = {.in = NULL};
+    struct run run = {.rows = {.not_counted = {0}}};
     argp_parse(&argp, argc, argv, 0, NULL, &arguments);
     int code = capture_open(&run.reader, arguments.in);
     if (code != EXIT_DONE)
@@ -288,8 +320,12 @@ int command_loss(int argc, char **argv)
     capture_close(&run.reader);
     if (code != EXIT_DONE)
         return code;
-    const struct report report = make_report(&run);
-    (arguments.csv ? print_csv : print_table)(&report);
-    say_account(arguments.csv ? stderr : stdout, &run, &report);
+    const struct report report = rows_report(&run.rows);
+    if (arguments.json)
+        json_report(&run, &report);
+    else {
+        (arguments.csv ? print_csv : print_table)(&report);
+        say_account(arguments.csv ? stderr : stdout, &run, &report);
+    }
     return capture_end_code(&run.reader);
 }

@@ -19,6 +19,7 @@ struct arguments {
     size_t via_count;
     const char *far;
     bool both;
+    bool json;
     bool quiet;
 };
 
@@ -46,51 +47,83 @@ static int add_tables(struct tables *tables, const struct arguments *arguments)
     return code;
 }
 
-static struct fit match_way(FILE *to, const struct fit_way *way)
+/* What is said: one way or both, and the sums of them. */
+struct report {
+    struct fit_way ways[2];
+    struct fit fits[2];
+    size_t count;
+    unsigned int fitting, asked, waypoints_only;
+};
+
+static void add_way(struct report *report, const struct fit_way *way)
 {
     const struct fit fit = fit_judge(way);
-    fprintf(to, "from %s to %s:\n", way->near->name, way->far->name);
-    for (unsigned int i = 0; i < fit.record_count; i++)
-        fit_say_record(to, way, &fit.records[i]);
-    if (fit.record_count == 0)
-        fprintf(to, "  nothing to check: %s has no End.M.GTP6.D.Di entry and no rule\n", way->near->name);
-    return fit;
+    report->ways[report->count] = *way;
+    report->fits[report->count] = fit;
+    report->count++;
+    report->fitting += fit.fitting;
+    report->asked += fit.asked;
+    report->waypoints_only += fit.waypoints_only;
 }
 
-static void say_way(FILE *to, const struct fit *fit, const struct stop *near, const struct stop *far)
-{
-    fprintf(to, "%u of %u from %s to %s", fit->fitting, fit->asked, near->name, far->name);
-}
-
-/* The last line; the exit code that it makes. */
-static int say_summary(FILE *to, const struct fit *there, const struct fit *back, const struct fit_way *way)
-{
-    const unsigned int fitting = there->fitting + (back == NULL ? 0 : back->fitting);
-    const unsigned int asked = there->asked + (back == NULL ? 0 : back->asked);
-    const unsigned int waypoints_only = there->waypoints_only + (back == NULL ? 0 : back->waypoints_only);
-    fprintf(to, "%u of %u fit", fitting, asked);
-    if (back != NULL) {
-        fputs(": ", to);
-        say_way(to, there, way->near, way->far);
-        fputs(", ", to);
-        say_way(to, back, way->far, way->near);
-    }
-    if (waypoints_only != 0)
-        fprintf(to, "; of %u End.M.GTP6.D %s only the waypoints are checked", waypoints_only, waypoints_only == 1 ? "entry" : "entries");
-    fputc('\n', to);
-    return fitting == asked ? EXIT_DONE : EXIT_INPUT;
-}
-
-static int match(FILE *to, const struct tables *tables, bool both)
+static struct report make_report(const struct tables *tables, bool both)
 {
     const struct stop *vias = &tables->stops[2];
     const struct fit_way way = {&tables->stops[0], vias, tables->count - 2, &tables->stops[1], false};
     const struct fit_way way_back = {way.far, vias, way.via_count, way.near, false};
-    const struct fit there = match_way(to, &way);
-    if (!both)
-        return say_summary(to, &there, NULL, &way);
-    const struct fit back = match_way(to, &way_back);
-    return say_summary(to, &there, &back, &way);
+    struct report report = {.count = 0};
+    add_way(&report, &way);
+    if (both)
+        add_way(&report, &way_back);
+    return report;
+}
+
+static void say_way(FILE *to, const struct fit_way *way, const struct fit *fit)
+{
+    fprintf(to, "from %s to %s:\n", way->near->name, way->far->name);
+    for (unsigned int i = 0; i < fit->record_count; i++)
+        fit_say_record(to, way, &fit->records[i]);
+    if (fit->record_count == 0)
+        fprintf(to, "  nothing to check: %s has no End.M.GTP6.D.Di entry and no rule\n", way->near->name);
+}
+
+static void say_summary(FILE *to, const struct report *report)
+{
+    fprintf(to, "%u of %u fit", report->fitting, report->asked);
+    for (size_t i = 0; report->count > 1 && i < report->count; i++)
+        fprintf(to, "%s%u of %u from %s to %s", i == 0 ? ": " : ", ", report->fits[i].fitting, report->fits[i].asked,
+                report->ways[i].near->name, report->ways[i].far->name);
+    if (report->waypoints_only != 0)
+        fprintf(to, "; of %u End.M.GTP6.D %s only the waypoints are checked", report->waypoints_only,
+                report->waypoints_only == 1 ? "entry" : "entries");
+    fputc('\n', to);
+}
+
+static void say_report(FILE *to, const struct report *report)
+{
+    for (size_t i = 0; i < report->count; i++)
+        say_way(to, &report->ways[i], &report->fits[i]);
+    say_summary(to, report);
+}
+
+static void json_report(FILE *to, const struct report *report)
+{
+    struct json json;
+    json_begin(&json, to, "match");
+    json_array(&json, "ways");
+    for (size_t i = 0; i < report->count; i++)
+        fit_json(&json, NULL, &report->ways[i], &report->fits[i]);
+    json_close(&json);
+    fit_json_counts(&json, report->fitting, report->asked, report->waypoints_only);
+    json_end(&json);
+}
+
+/* The exit code. */
+static int match(const struct arguments *arguments, const struct tables *tables)
+{
+    const struct report report = make_report(tables, arguments->both);
+    (arguments->json ? json_report : say_report)(arguments->quiet ? output_nowhere() : stdout, &report);
+    return report.fitting == report.asked ? EXIT_DONE : EXIT_INPUT;
 }
 
 static bool input_taken(const struct arguments *arguments)
@@ -115,7 +148,7 @@ static void add_via(struct argp_state *state, struct arguments *arguments, const
 }
 
 /* Options without a short name have numbers past those of characters. */
-enum { OPTION_NEAR = 256, OPTION_VIA, OPTION_FAR, OPTION_BOTH };
+enum { OPTION_NEAR = 256, OPTION_VIA, OPTION_FAR, OPTION_BOTH, OPTION_JSON };
 
 static error_t parse(int key, char *value, struct argp_state *state)
 {
@@ -133,6 +166,9 @@ static error_t parse(int key, char *value, struct argp_state *state)
     case OPTION_BOTH:
         arguments->both = true;
         return 0;
+    case OPTION_JSON:
+        arguments->json = true;
+        return 0;
     case 'q':
         arguments->quiet = true;
         return 0;
@@ -142,6 +178,7 @@ static error_t parse(int key, char *value, struct argp_state *state)
     case ARGP_KEY_END:
         if (arguments->near == NULL || arguments->far == NULL)
             argp_error(state, "--near and --far are needed");
+        options_exclude(state, arguments->json, "--json", arguments->quiet, "--quiet");
         return 0;
     default:
         return ARGP_ERR_UNKNOWN;
@@ -153,6 +190,7 @@ static const struct argp_option option_list[] = {
     {"via", OPTION_VIA, "TABLE", 0, "the table of a waypoint; given once for each, in any order", 0},
     {"far", OPTION_FAR, "TABLE", 0, "the table of the gateway where packets come out", 0},
     {"both", OPTION_BOTH, NULL, 0, "check the way back as well, from the far gateway to the near one", 0},
+    {"json", OPTION_JSON, NULL, 0, json_option_words, 0},
     {"quiet", 'q', NULL, 0, "print nothing but faults; the exit code says whether all fit", 0},
     {NULL, 0, NULL, 0, NULL, 0},
 };
@@ -178,7 +216,7 @@ int command_match(int argc, char **argv)
         return EXIT_USAGE;
     int code = add_tables(&tables, &arguments);
     if (code == EXIT_DONE)
-        code = match(arguments.quiet ? output_nowhere() : stdout, &tables, arguments.both);
+        code = match(&arguments, &tables);
     for (size_t i = 0; i < tables.count; i++)
         stop_free(&tables.stops[i]);
     return code;

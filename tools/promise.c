@@ -1,5 +1,8 @@
 #include "promise.h"
 
+#include <assert.h>
+#include <stdarg.h>
+#include <stdio.h>
 #include <string.h>
 
 #include "formats.h"
@@ -115,15 +118,19 @@ struct field {
 };
 
 static const struct field fields6[] = {
-    {"source", 8, 16, 0xFF, 0xFF}, {"destination", 24, 16, 0xFF, 0xFF}, {"TEID", 52, 4, 0xFF, 0xFF},
-    {"QFI", 62, 1, 0x3F, 0x3F},    {"R", 62, 1, 0x40, 0x40},            {"direction", 61, 1, 0xF0, 0xF0},
-    {"traffic class", 0, 2, 0x0F, 0xF0},
+    {"source", 8, 16, 0xFF, 0xFF}, {"destination", 24, 16, 0xFF, 0xFF}, {"TEID", 52, 4, 0xFF, 0xFF},         {"QFI", 62, 1, 0x3F, 0x3F},
+    {"R", 62, 1, 0x40, 0x40},      {"direction", 61, 1, 0xF0, 0xF0},    {"traffic class", 0, 2, 0x0F, 0xF0},
 };
 
 static const struct field fields4[] = {
-    {"source", 12, 4, 0xFF, 0xFF},       {"destination", 16, 4, 0xFF, 0xFF},       {"TEID", 32, 4, 0xFF, 0xFF},
-    {"QFI", 42, 1, 0x3F, 0x3F},          {"R", 42, 1, 0x40, 0x40},                 {"direction", 41, 1, 0xF0, 0xF0},
-    {"traffic class", 1, 1, 0xFF, 0xFF}, {"header checksum", CHECKSUM4, 2, 0xFF, 0xFF},
+    {"source", 12, 4, 0xFF, 0xFF},
+    {"destination", 16, 4, 0xFF, 0xFF},
+    {"TEID", 32, 4, 0xFF, 0xFF},
+    {"QFI", 42, 1, 0x3F, 0x3F},
+    {"R", 42, 1, 0x40, 0x40},
+    {"direction", 41, 1, 0xF0, 0xF0},
+    {"traffic class", 1, 1, 0xFF, 0xFF},
+    {"header checksum", CHECKSUM4, 2, 0xFF, 0xFF},
 };
 
 static const struct layout {
@@ -148,50 +155,42 @@ static bool take(const struct field *field, uint8_t *differing)
     return found != 0;
 }
 
-/* Words with commas between them. */
-struct list {
-    FILE *to;
-    bool begun;
-};
-
-static void next(struct list *list)
+void differences_add(struct differences *differences, const char *format, ...)
 {
-    if (list->begun)
-        fputs(", ", list->to);
-    list->begun = true;
+    va_list arguments;
+    assert(differences->count < DIFFERENCES_MAX);
+    va_start(arguments, format);
+    vsnprintf(differences->words[differences->count++], DIFFERENCE_ROOM, format, arguments);
+    va_end(arguments);
 }
 
-static void say_fields(struct list *list, const struct layout *layout, uint8_t *differing)
+static void add_fields(struct differences *differences, const struct layout *layout, uint8_t *differing)
 {
     for (size_t i = 0; i < layout->field_count; i++)
-        if (take(&layout->fields[i], differing)) {
-            next(list);
-            fputs(layout->fields[i].name, list->to);
-        }
+        if (take(&layout->fields[i], differing))
+            differences_add(differences, "%s", layout->fields[i].name);
 }
 
-static void say_octets(struct list *list, const struct layout *layout, const uint8_t *differing)
+static void add_octets(struct differences *differences, const struct layout *layout, const uint8_t *differing)
 {
     const size_t udp = layout->header;
     const size_t gtpu = udp + UDP_HEADER;
     for (size_t i = 0; i < layout->front; i++) {
         if (differing[i] == 0)
             continue;
-        next(list);
         if (i < udp)
-            fprintf(list->to, "octet %zu of the %s header", i, layout->name);
+            differences_add(differences, "octet %zu of the %s header", i, layout->name);
         else if (i < gtpu)
-            fprintf(list->to, "octet %zu of UDP", i - udp);
+            differences_add(differences, "octet %zu of UDP", i - udp);
         else
-            fprintf(list->to, "octet %zu of GTP-U", i - gtpu);
+            differences_add(differences, "octet %zu of GTP-U", i - gtpu);
     }
 }
 
-void promise_say_differences(FILE *to, const struct promise *promise, const uint8_t *packet, size_t length)
+void promise_differences(const struct promise *promise, const uint8_t *packet, size_t length, struct differences *differences)
 {
     const struct layout *layout = promise->octets[0] >> 4 == 4 ? &layout4 : &layout6;
     const size_t inner = layout->front;
-    struct list list = {to, false};
     uint8_t front[FRONT6] = {0};
     uint8_t differing[FRONT6] = {0};
     memcpy(front, packet, length < inner ? length : inner);
@@ -200,10 +199,8 @@ void promise_say_differences(FILE *to, const struct promise *promise, const uint
     /* with another value the checksum is another too: it is told where it is not that of its own header */
     if (layout == &layout4 && get16(front + CHECKSUM4) == checksum4(front))
         memset(differing + CHECKSUM4, 0, 2);
-    say_fields(&list, layout, differing);
-    if (length != promise->length || memcmp(packet + inner, promise->octets + inner, length - inner) != 0) {
-        next(&list);
-        fputs("inner octets", to);
-    }
-    say_octets(&list, layout, differing);
+    add_fields(differences, layout, differing);
+    if (length != promise->length || memcmp(packet + inner, promise->octets + inner, length - inner) != 0)
+        differences_add(differences, "inner octets");
+    add_octets(differences, layout, differing);
 }

@@ -6,7 +6,6 @@
 #include <stdbool.h>
 #include <stddef.h>
 #include <stdint.h>
-#include <stdio.h>
 
 #include "describe.h"
 #include "kawsarpa.h"
@@ -28,7 +27,17 @@ bool promise_make(struct promise *promise, const struct packet_reading *in, cons
 /* Whether a packet is the promised one, octet for octet. */
 bool promise_kept(const struct promise *promise, const uint8_t *packet, size_t length);
 
+/* What differs, in words, in the order in which it is told. Room for every octet of the headers, and their fields. */
+enum { DIFFERENCES_MAX = 96, DIFFERENCE_ROOM = 32 };
+
+struct differences {
+    char words[DIFFERENCES_MAX][DIFFERENCE_ROOM];
+    size_t count;
+};
+
+__attribute__((format(printf, 2, 3))) void differences_add(struct differences *differences, const char *format, ...);
+
 /* Names what differs in a packet that is not: fields, then the other octets of the headers, each counted from 0 in its header. */
-void promise_say_differences(FILE *to, const struct promise *promise, const uint8_t *packet, size_t length);
+void promise_differences(const struct promise *promise, const uint8_t *packet, size_t length, struct differences *differences);
 
 #endif

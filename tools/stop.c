@@ -6,7 +6,6 @@
 #include "commands.h"
 #include "formats.h"
 #include "table.h"
-#include "words.h"
 
 uint64_t stop_call(const struct stop *stop, unsigned int version, const uint8_t *packet, size_t length, uint8_t out[STOP_ROOM])
 {
@@ -86,17 +85,24 @@ bool stop_find(const struct stop *stop, unsigned int version, const uint8_t *pac
     return version == 4 ? find_rule(stop, packet + IPV4_DESTINATION, record) : find_entry(stop, packet + IPV6_DESTINATION, record);
 }
 
-void stop_say_record(FILE *to, const struct stop *stop, struct stop_record record)
+static struct record_words record_words(const struct stop *stop, struct stop_record record)
 {
     const struct table_records records = table_records(&stop->table);
-    const char *behaviour = "H.M.GTP4.D";
-    char prefix[PREFIX_ROOM];
-    if (record.kind == KAWSARPA_RECORD_ENTRY) {
-        behaviour = word_numbered(behaviours, records.entries[record.index].behaviour)->name;
-        entry_prefix_text(&records.entries[record.index], prefix);
-    } else
-        rule_prefix_text(&records.rules[record.index], prefix);
-    fprintf(to, "%s %u %s %s", record_name(record.kind), record.index + 1, behaviour, prefix);
+    return table_record_words(&records, record.kind, record.index);
+}
+
+void stop_say_record(FILE *to, const struct stop *stop, struct stop_record record)
+{
+    const struct record_words words = record_words(stop, record);
+    fprintf(to, "%s %u %s %s", words.kind, words.number, words.behaviour, words.prefix);
+}
+
+void stop_json_record(struct json *json, const char *name, const struct stop *stop, struct stop_record record)
+{
+    const struct record_words words = record_words(stop, record);
+    json_object(json, name);
+    table_json_record(json, &words);
+    json_close(json);
 }
 
 int stop_load(struct stop *stop, const char *name)
@@ -125,4 +131,21 @@ void stop_say_answer(FILE *to, uint64_t answer)
     if (kawsarpa_answer_icmp_type(answer) != 0)
         fprintf(to, " (ICMPv6 type %u, code %u, pointer %u)", kawsarpa_answer_icmp_type(answer), kawsarpa_answer_icmp_code(answer),
                 kawsarpa_answer_icmp_pointer(answer));
+}
+
+void stop_json_answer(struct json *json, uint64_t answer)
+{
+    const unsigned int number = kawsarpa_answer_number(answer);
+    json_object(json, "answer");
+    json_number(json, "number", number);
+    json_text(json, "name", kawsarpa_answer_name(number));
+    json_flag(json, "refused", number != KAWSARPA_ANSWER_SENT);
+    if (kawsarpa_answer_icmp_type(answer) != 0) {
+        json_object(json, "icmp");
+        json_number(json, "type", kawsarpa_answer_icmp_type(answer));
+        json_number(json, "code", kawsarpa_answer_icmp_code(answer));
+        json_number(json, "pointer", kawsarpa_answer_icmp_pointer(answer));
+        json_close(json);
+    }
+    json_close(json);
 }

@@ -8,6 +8,7 @@
 #include <stdio.h>
 
 #include "file.h"
+#include "json.h"
 #include "kawsarpa.h"
 
 /* Room for every packet that the library can send. */
@@ -40,8 +41,10 @@ bool stop_find(const struct stop *stop, unsigned int version, const uint8_t *pac
 
 /* "entry 1 End 2001:db8:1::/48", "rule 1 H.M.GTP4.D 192.0.2.0/24". */
 void stop_say_record(FILE *to, const struct stop *stop, struct stop_record record);
+void stop_json_record(struct json *json, const char *name, const struct stop *stop, struct stop_record record);
 
 /* An answer in words, with its number and what an ICMPv6 message would say, where it is a refusal. */
 void stop_say_answer(FILE *to, uint64_t answer);
+void stop_json_answer(struct json *json, uint64_t answer);
 
 #endif

@@ -33,23 +33,21 @@ static bool is_description(const struct octets *octets)
     return octets->count > 0 && octets->at[0] != KAWSARPA_FORMAT && memmem(octets->at, octets->count, key, strlen(key)) != NULL;
 }
 
-static void say_unsound(const char *name, const struct octets *table, uint64_t fault)
+int table_read(const char *name, struct octets *table, uint64_t *fault)
 {
-    if (is_description(table))
-        say_error_at(file_shown_name(name, "standard input"), 0, "a description: compile it first, with `kawsarpa compile'");
-    else
-        table_say_fault(name, table, fault);
+    const int code = file_read(name, TABLE_READ_MOST, table);
+    if (code == EXIT_DONE)
+        *fault = kawsarpa_table_fault(table->at, table->count);
+    return code;
 }
 
 int table_read_sound(const char *name, struct octets *table)
 {
-    const int code = file_read(name, TABLE_READ_MOST, table);
-    if (code != EXIT_DONE)
+    uint64_t fault = 0;
+    const int code = table_read(name, table, &fault);
+    if (code != EXIT_DONE || fault == 0)
         return code;
-    const uint64_t fault = kawsarpa_table_fault(table->at, table->count);
-    if (fault == 0)
-        return EXIT_DONE;
-    say_unsound(name, table, fault);
+    table_say_unsound(name, table, fault);
     free(table->at);
     return EXIT_INPUT;
 }
@@ -68,6 +66,37 @@ void rule_prefix_text(const struct kawsarpa_rule *rule, char text[PREFIX_ROOM])
     snprintf(text, PREFIX_ROOM, "%s/%u", address, rule->prefix_length);
 }
 
+struct record_words table_record_words(const struct table_records *records, unsigned int kind, unsigned int index)
+{
+    struct record_words words = {record_name(kind), index + 1, NULL, ""};
+    if (kind == KAWSARPA_RECORD_ENTRY) {
+        const struct word *behaviour = word_numbered(behaviours, records->entries[index].behaviour);
+        words.behaviour = behaviour == NULL ? NULL : behaviour->name;
+        entry_prefix_text(&records->entries[index], words.prefix);
+    } else if (kind == KAWSARPA_RECORD_RULE) {
+        words.behaviour = "H.M.GTP4.D";
+        rule_prefix_text(&records->rules[index], words.prefix);
+    }
+    return words;
+}
+
+void table_json_record(struct json *json, const struct record_words *words)
+{
+    json_text(json, "kind", words->kind);
+    json_number(json, "number", words->number);
+    if (words->behaviour != NULL)
+        json_text(json, "behaviour", words->behaviour);
+    if (*words->prefix != 0)
+        json_text(json, "prefix", words->prefix);
+}
+
+void table_json_counts(struct json *json, const struct table_records *records)
+{
+    json_number(json, "entries", records->entry_count);
+    json_number(json, "rules", records->rule_count);
+    json_number(json, "policies", records->policy_count);
+}
+
 static bool same_entry_prefix(const struct kawsarpa_entry *a, const struct kawsarpa_entry *b)
 {
     return a->prefix_length == b->prefix_length && memcmp(a->prefix, b->prefix, sizeof a->prefix) == 0;
@@ -82,7 +111,7 @@ unsigned int table_earlier(const struct table_records *records, unsigned int rec
 {
     for (unsigned int i = 0; i < index; i++)
         if (record == KAWSARPA_RECORD_ENTRY ? same_entry_prefix(&records->entries[i], &records->entries[index])
-                                   : same_rule_prefix(&records->rules[i], &records->rules[index]))
+                                            : same_rule_prefix(&records->rules[i], &records->rules[index]))
             return i;
     return index;
 }
@@ -100,43 +129,122 @@ bool fault_is_same_prefix(uint64_t fault)
     }
 }
 
-/* The counts of a header need not be there. */
+/* What is told of a header that is not sound. */
+struct header_words {
+    bool whole; /* else there are no counts */
+    struct table_records counts;
+    size_t size; /* of what is counted */
+};
+
+static struct header_words header_words(const struct octets *table)
+{
+    if (table->count < sizeof(struct kawsarpa_table_header))
+        return (struct header_words){.whole = false};
+    const struct table_records counts = table_records(table);
+    return (struct header_words){
+        true, counts, kawsarpa_table_size((uint16_t)counts.entry_count, (uint16_t)counts.rule_count, (uint16_t)counts.policy_count)};
+}
+
 static void say_header_fault(const char *name, const struct octets *table, const char *broken)
 {
-    if (table->count < sizeof(struct kawsarpa_table_header)) {
+    const struct header_words header = header_words(table);
+    if (!header.whole)
         say_error_at(name, 0, "not sound: %s (%zu octets are no header)", broken, table->count);
-        return;
+    else
+        say_error_at(name, 0, "not sound: %s (format %u; entries %u, rules %u, policies %u, which take %zu octets; there are %zu)", broken,
+                     table->at[0], header.counts.entry_count, header.counts.rule_count, header.counts.policy_count, header.size,
+                     table->count);
+}
+
+static void json_header_fault(struct json *json, const struct octets *table)
+{
+    const struct header_words header = header_words(table);
+    json_text(json, "kind", record_name(KAWSARPA_RECORD_HEADER));
+    if (header.whole) {
+        json_number(json, "format", table->at[0]);
+        table_json_counts(json, &header.counts);
+        json_number(json, "octets_needed", header.size);
     }
+    json_number(json, "octets", table->count);
+}
+
+/* What is told of a fault: the record, and the earlier one with its prefix, from 1; 0 where the fault is another. */
+struct fault_told {
+    struct record_words record;
+    unsigned int earlier;
+};
+
+static struct fault_told tell_fault(const struct octets *table, uint64_t fault)
+{
     const struct table_records records = table_records(table);
-    const size_t size = kawsarpa_table_size((uint16_t)records.entry_count, (uint16_t)records.rule_count, (uint16_t)records.policy_count);
-    say_error_at(name, 0, "not sound: %s (format %u; entries %u, rules %u, policies %u, which take %zu octets; there are %zu)", broken,
-                 table->at[0], records.entry_count, records.rule_count, records.policy_count, size, table->count);
+    const unsigned int kind = kawsarpa_fault_record(fault);
+    const unsigned int index = kawsarpa_fault_index(fault);
+    const unsigned int earlier = fault_is_same_prefix(fault) ? table_earlier(&records, kind, index) + 1 : 0;
+    return (struct fault_told){table_record_words(&records, kind, index), earlier};
 }
 
 static void say_record_fault(const char *name, const struct octets *table, uint64_t fault, const char *broken)
 {
-    const struct table_records records = table_records(table);
-    const unsigned int record = kawsarpa_fault_record(fault);
-    const unsigned int index = kawsarpa_fault_index(fault);
-    char prefix[PREFIX_ROOM] = "";
+    const struct fault_told told = tell_fault(table, fault);
+    const char *prefix = told.record.prefix;
     char earlier[32] = "";
-    if (record == KAWSARPA_RECORD_ENTRY)
-        entry_prefix_text(&records.entries[index], prefix);
-    else if (record == KAWSARPA_RECORD_RULE)
-        rule_prefix_text(&records.rules[index], prefix);
-    if (fault_is_same_prefix(fault))
-        snprintf(earlier, sizeof earlier, " (%s %u)", record_name(record), table_earlier(&records, record, index) + 1);
-    say_error_at(name, 0, "not sound: %s %u%s%s: %s%s", record_name(record), index + 1, *prefix == 0 ? "" : " ", prefix, broken, earlier);
+    if (told.earlier != 0)
+        snprintf(earlier, sizeof earlier, " (%s %u)", told.record.kind, told.earlier);
+    say_error_at(name, 0, "not sound: %s %u%s%s: %s%s", told.record.kind, told.record.number, *prefix == 0 ? "" : " ", prefix, broken,
+                 earlier);
 }
 
-void table_say_fault(const char *name, const struct octets *table, uint64_t fault)
+static void json_record_fault(struct json *json, const struct octets *table, uint64_t fault)
+{
+    const struct fault_told told = tell_fault(table, fault);
+    table_json_record(json, &told.record);
+    if (told.earlier != 0)
+        json_number(json, "earlier", told.earlier);
+}
+
+static const char *broken_words(uint64_t fault)
+{
+    const struct fault_words *words = fault_words(kawsarpa_fault_record(fault), kawsarpa_fault_condition(fault));
+    return words == NULL ? "a condition that this program does not know" : words->broken;
+}
+
+static void say_fault(const char *name, const struct octets *table, uint64_t fault)
+{
+    if (kawsarpa_fault_record(fault) == KAWSARPA_RECORD_HEADER)
+        say_header_fault(name, table, broken_words(fault));
+    else
+        say_record_fault(name, table, fault, broken_words(fault));
+    say_error("fault %llu; `kawsarpa explain --fault %llu' says more", (unsigned long long)fault, (unsigned long long)fault);
+}
+
+void table_say_unsound(const char *name, const struct octets *table, uint64_t fault)
 {
     const char *shown = file_shown_name(name, "standard input");
-    const struct fault_words *words = fault_words(kawsarpa_fault_record(fault), kawsarpa_fault_condition(fault));
-    const char *broken = words == NULL ? "a condition that this program does not know" : words->broken;
-    if (kawsarpa_fault_record(fault) == KAWSARPA_RECORD_HEADER)
-        say_header_fault(shown, table, broken);
+    if (is_description(table))
+        say_error_at(shown, 0, "a description: compile it first, with `kawsarpa compile'");
     else
-        say_record_fault(shown, table, fault, broken);
-    say_error("fault %llu; `kawsarpa explain --fault %llu' says more", (unsigned long long)fault, (unsigned long long)fault);
+        say_fault(shown, table, fault);
+}
+
+static void json_fault(struct json *json, const struct octets *table, uint64_t fault)
+{
+    json_object(json, "fault");
+    json_number(json, "number", fault);
+    json_number(json, "condition", kawsarpa_fault_condition(fault));
+    json_text(json, "broken", broken_words(fault));
+    json_object(json, "record");
+    if (kawsarpa_fault_record(fault) == KAWSARPA_RECORD_HEADER)
+        json_header_fault(json, table);
+    else
+        json_record_fault(json, table, fault);
+    json_close(json);
+    json_close(json);
+}
+
+void table_json_unsound(struct json *json, const struct octets *table, uint64_t fault)
+{
+    const bool description = is_description(table);
+    json_flag(json, "description", description);
+    if (!description)
+        json_fault(json, table, fault);
 }

@@ -3,7 +3,6 @@
 #include <stdbool.h>
 #include <stdint.h>
 #include <stdio.h>
-#include <string.h>
 
 #include "capture.h"
 #include "commands.h"
@@ -19,6 +18,7 @@ struct arguments {
     const char *in;
     const char *out;
     bool trace;
+    bool json;
     bool quiet;
 };
 
@@ -26,8 +26,10 @@ struct run {
     struct stop stop;
     struct capture_reader reader;
     struct output out;
-    FILE *account; /* where the trace and the summary go */
+    FILE *account;    /* where the trace and the summary go */
+    struct json json; /* begun when there is something to tell */
     bool trace;
+    bool as_json;
     bool quiet;
     unsigned long answers[UINT8_MAX + 1];
     size_t longest_in;
@@ -40,23 +42,68 @@ static bool found_record(unsigned int number)
     return number == KAWSARPA_ANSWER_SENT || number > KAWSARPA_ANSWER_NO_MATCH;
 }
 
-static void say_trace(const struct run *run, const struct capture_packet *packet, uint64_t answer, const uint8_t *sent)
+/* What is told of a packet. */
+struct trace {
+    const struct capture_packet *packet;
+    bool found;
+    struct stop_record record; /* where one was found */
+    uint64_t answer;
+    const uint8_t *sent; /* NULL: it was refused */
+    size_t sent_length;
+};
+
+static struct trace make_trace(const struct run *run, const struct capture_packet *packet, uint64_t answer, const uint8_t *sent)
 {
     const unsigned int number = kawsarpa_answer_number(answer);
-    struct stop_record record;
-    fprintf(run->account, "packet %lu: ", packet->number);
-    packet_describe(run->account, packet->octets, packet->length);
+    struct trace trace = {.packet = packet, .answer = answer};
+    trace.found = found_record(number) && stop_find(&run->stop, packet->version, packet->octets, packet->length, &trace.record);
+    if (number == KAWSARPA_ANSWER_SENT) {
+        trace.sent = sent;
+        trace.sent_length = kawsarpa_answer_length(answer);
+    }
+    return trace;
+}
+
+static void say_trace(struct run *run, const struct trace *trace)
+{
+    fprintf(run->account, "packet %lu: ", trace->packet->number);
+    packet_describe(run->account, trace->packet->octets, trace->packet->length);
     fputs("\n  ", run->account);
-    if (found_record(number) && stop_find(&run->stop, packet->version, packet->octets, packet->length, &record)) {
-        stop_say_record(run->account, &run->stop, record);
+    if (trace->found) {
+        stop_say_record(run->account, &run->stop, trace->record);
         fputs(": ", run->account);
     }
-    stop_say_answer(run->account, answer);
-    if (number == KAWSARPA_ANSWER_SENT) {
+    stop_say_answer(run->account, trace->answer);
+    if (trace->sent != NULL) {
         fputs(": ", run->account);
-        packet_describe(run->account, sent, kawsarpa_answer_length(answer));
+        packet_describe(run->account, trace->sent, trace->sent_length);
     }
     fputc('\n', run->account);
+}
+
+static void json_head(struct run *run)
+{
+    if (json_open(&run->json))
+        return;
+    json_begin(&run->json, run->account, "translate");
+    json_text(&run->json, "table", run->stop.name);
+    if (run->trace)
+        json_array(&run->json, "packets");
+}
+
+static void json_trace(struct run *run, const struct trace *trace)
+{
+    struct json *json = &run->json;
+    json_head(run);
+    json_object(json, NULL);
+    json_number(json, "number", trace->packet->number);
+    packet_json(json, "in", trace->packet->octets, trace->packet->length);
+    if (trace->found)
+        stop_json_record(json, "record", &run->stop, trace->record);
+    stop_json_answer(json, trace->answer);
+    if (trace->sent != NULL)
+        packet_json(json, "sent", trace->sent, trace->sent_length);
+    json_close(json);
 }
 
 static size_t larger(size_t a, size_t b)
@@ -72,7 +119,8 @@ static int translate_packet(struct run *run, const struct capture_packet *packet
     int code = EXIT_DONE;
     run->answers[kawsarpa_answer_number(answer)]++;
     if (run->trace) {
-        say_trace(run, packet, answer, sent);
+        const struct trace trace = make_trace(run, packet, answer, sent);
+        (run->as_json ? json_trace : say_trace)(run, &trace);
         code = output_printed(run->account);
     }
     if (code != EXIT_DONE || kawsarpa_answer_number(answer) != KAWSARPA_ANSWER_SENT)
@@ -97,7 +145,7 @@ static int translate_all(struct run *run)
     return code == EXIT_DONE ? run->reader.code : code;
 }
 
-static void say_summary(const struct run *run)
+static void say_summary(struct run *run)
 {
     capture_say_counts(run->account, &run->reader.counts);
     for (unsigned int number = 0; number <= UINT8_MAX; number++)
@@ -105,6 +153,38 @@ static void say_summary(const struct run *run)
             fprintf(run->account, "%8lu  %2u %s\n", run->answers[number], number, kawsarpa_answer_name(number));
     if (run->longest_sent > 0)
         fprintf(run->account, "longest packet: %zu octets in, %zu sent\n", run->longest_in, run->longest_sent);
+}
+
+static void json_answers(struct json *json, const unsigned long answers[UINT8_MAX + 1])
+{
+    json_array(json, "answers");
+    for (unsigned int number = 0; number <= UINT8_MAX; number++) {
+        if (answers[number] == 0)
+            continue;
+        json_object(json, NULL);
+        json_number(json, "number", number);
+        json_text(json, "name", kawsarpa_answer_name(number));
+        json_number(json, "packets", answers[number]);
+        json_close(json);
+    }
+    json_close(json);
+}
+
+static void json_summary(struct run *run)
+{
+    struct json *json = &run->json;
+    json_head(run);
+    if (run->trace)
+        json_close(json);
+    capture_json(json, &run->reader);
+    json_answers(json, run->answers);
+    if (run->longest_sent > 0) {
+        json_object(json, "longest");
+        json_number(json, "in", run->longest_in);
+        json_number(json, "sent", run->longest_sent);
+        json_close(json);
+    }
+    json_finish(json, false);
 }
 
 static int translate_into(struct run *run, const char *out)
@@ -120,7 +200,7 @@ static int translate_into(struct run *run, const char *out)
     code = output_commit(&run->out);
     if (code != EXIT_DONE)
         return code;
-    say_summary(run);
+    (run->as_json ? json_summary : say_summary)(run);
     return capture_end_code(&run->reader);
 }
 
@@ -130,6 +210,8 @@ static int translate_capture(struct run *run, const struct arguments *arguments)
     if (code != EXIT_DONE)
         return code;
     code = translate_into(run, arguments->out);
+    if (json_open(&run->json))
+        json_finish(&run->json, true);
     capture_close(&run->reader);
     return code;
 }
@@ -142,7 +224,7 @@ static bool output_taken(const struct arguments *arguments, FILE *account)
 }
 
 /* Options without a short name have numbers past those of characters. */
-enum { OPTION_TABLE = 256, OPTION_TRACE };
+enum { OPTION_TABLE = 256, OPTION_TRACE, OPTION_JSON };
 
 static error_t parse(int key, char *value, struct argp_state *state)
 {
@@ -153,6 +235,9 @@ static error_t parse(int key, char *value, struct argp_state *state)
         return 0;
     case OPTION_TRACE:
         arguments->trace = true;
+        return 0;
+    case OPTION_JSON:
+        arguments->json = true;
         return 0;
     case 'q':
         arguments->quiet = true;
@@ -165,8 +250,9 @@ static error_t parse(int key, char *value, struct argp_state *state)
     case ARGP_KEY_END:
         if (arguments->table == NULL || arguments->out == NULL)
             argp_error(state, "--table, IN.pcap and OUT.pcap are needed");
-        if (arguments->trace && arguments->quiet)
-            argp_error(state, "--trace and --quiet cannot be had together");
+        options_exclude(state, arguments->trace, "--trace", arguments->quiet, "--quiet");
+        options_exclude(state, arguments->json, "--json", arguments->quiet, "--quiet");
+        options_exclude(state, arguments->json, "--json", file_is_standard(arguments->out), "OUT.pcap on standard output");
         return 0;
     default:
         return ARGP_ERR_UNKNOWN;
@@ -176,6 +262,7 @@ static error_t parse(int key, char *value, struct argp_state *state)
 static const struct argp_option option_list[] = {
     {"table", OPTION_TABLE, "TABLE", 0, "the table to translate by", 0},
     {"trace", OPTION_TRACE, NULL, 0, "print of each packet what it is, the entry or rule that matched, the answer, and what leaves", 0},
+    {"json", OPTION_JSON, NULL, 0, json_option_words, 0},
     {"quiet", 'q', NULL, 0, "print nothing but faults", 0},
     {NULL, 0, NULL, 0, NULL, 0},
 };
@@ -194,8 +281,8 @@ int command_translate(int argc, char **argv)
 {
     struct arguments arguments = {.table = NULL};
     argp_parse(&argp, argc, argv, 0, NULL, &arguments);
-    struct run run = {.trace = arguments.trace, .quiet = arguments.quiet};
-    run.account = run.quiet ? output_nowhere() : strcmp(arguments.out, "-") == 0 ? stderr : stdout;
+    struct run run = {.trace = arguments.trace, .as_json = arguments.json, .quiet = arguments.quiet};
+    run.account = run.quiet ? output_nowhere() : file_is_standard(arguments.out) ? stderr : stdout;
     const char *const inputs[] = {arguments.table, arguments.in};
     if (file_standard_twice(inputs, 2) || output_taken(&arguments, run.account))
         return EXIT_USAGE;

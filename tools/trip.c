@@ -5,6 +5,7 @@
 #include <stdio.h>
 #include <string.h>
 
+#include "arrival.h"
 #include "capture.h"
 #include "commands.h"
 #include "describe.h"
@@ -13,7 +14,6 @@
 #include "kawsarpa.h"
 #include "options.h"
 #include "progress.h"
-#include "promise.h"
 #include "stop.h"
 
 /* The near gateway, the waypoints, the far gateway. */
@@ -26,6 +26,7 @@ struct arguments {
     const char *far;
     const char *in;
     const char *out; /* NULL: what comes out is not kept */
+    bool json;
     bool quiet;
 };
 
@@ -35,36 +36,79 @@ struct trip {
     struct capture_reader reader;
     struct output out;
     FILE *account;
+    struct json json;
+    bool as_json;
     bool quiet;
     unsigned long arrived;
     unsigned long unchanged; /* of those, what came out as it has to */
 };
 
-/* A packet on its way. */
-struct parcel {
-    const uint8_t *octets;
-    size_t length;
-};
-
-/* What left the last stop, nothing after a refusal; and the entries by which it went in and came out, as stop_entry tells them. */
-struct arrival {
-    struct parcel out;
-    const struct kawsarpa_entry *near;
-    const struct kawsarpa_entry *far;
-};
-
-static void say_stop(const struct trip *trip, size_t stop)
+static void say_packet(struct trip *trip, const struct capture_packet *packet)
 {
+    fprintf(trip->account, "packet %lu: ", packet->number);
+    packet_describe(trip->account, packet->octets, packet->length);
+    fputc('\n', trip->account);
+}
+
+static void json_packet(struct trip *trip, const struct capture_packet *packet)
+{
+    json_object(&trip->json, NULL);
+    json_number(&trip->json, "number", packet->number);
+    packet_json(&trip->json, "in", packet->octets, packet->length);
+    json_array(&trip->json, "stops");
+}
+
+/* What happened at a stop: near, via or far. */
+struct event {
+    const char *stop;
+    size_t via; /* from 1, at a waypoint; else 0 */
+    uint64_t answer;
+    struct parcel sent; /* no octets after a refusal */
+};
+
+static struct event make_event(const struct trip *trip, size_t stop, uint64_t answer, const uint8_t *sent)
+{
+    struct event event = {.stop = "via", .answer = answer};
     if (stop == 0)
-        fputs("  near: ", trip->account);
+        event.stop = "near";
     else if (stop + 1 == trip->stop_count)
-        fputs("  far: ", trip->account);
+        event.stop = "far";
     else
-        fprintf(trip->account, "  via %zu: ", stop);
+        event.via = stop;
+    if (kawsarpa_answer_number(answer) == KAWSARPA_ANSWER_SENT)
+        event.sent = (struct parcel){sent, kawsarpa_answer_length(answer)};
+    return event;
+}
+
+static void say_event(struct trip *trip, const struct event *event)
+{
+    fprintf(trip->account, "  %s", event->stop);
+    if (event->via != 0)
+        fprintf(trip->account, " %zu", event->via);
+    fputs(": ", trip->account);
+    stop_say_answer(trip->account, event->answer);
+    if (event->sent.octets != NULL) {
+        fputs(": ", trip->account);
+        packet_describe(trip->account, event->sent.octets, event->sent.length);
+    }
+    fputc('\n', trip->account);
+}
+
+static void json_event(struct trip *trip, const struct event *event)
+{
+    struct json *json = &trip->json;
+    json_object(json, NULL);
+    json_text(json, "stop", event->stop);
+    if (event->via != 0)
+        json_number(json, "number", event->via);
+    stop_json_answer(json, event->answer);
+    if (event->sent.octets != NULL)
+        packet_json(json, "sent", event->sent.octets, event->sent.length);
+    json_close(json);
 }
 
 /* Sends a packet through every stop. */
-static struct arrival walk(const struct trip *trip, const struct capture_packet *packet)
+static struct arrival walk(struct trip *trip, const struct capture_packet *packet)
 {
     static uint8_t buffers[2][STOP_ROOM]; /* what arrives at a stop and what leaves it */
     struct arrival arrival = {{NULL, 0}, stop_entry(&trip->stops[0], packet->version, packet->octets, packet->length), NULL};
@@ -73,100 +117,41 @@ static struct arrival walk(const struct trip *trip, const struct capture_packet 
     for (size_t i = 0; i < trip->stop_count; i++) {
         uint8_t *sent = buffers[i % 2];
         const uint64_t answer = stop_call(&trip->stops[i], version, here.octets, here.length, sent);
-        say_stop(trip, i);
-        stop_say_answer(trip->account, answer);
-        if (kawsarpa_answer_number(answer) != KAWSARPA_ANSWER_SENT) {
-            fputc('\n', trip->account);
+        const struct event event = make_event(trip, i, answer, sent);
+        (trip->as_json ? json_event : say_event)(trip, &event);
+        if (event.sent.octets == NULL)
             return arrival;
-        }
         if (i + 1 == trip->stop_count)
             arrival.far = stop_entry(&trip->stops[i], version, here.octets, here.length);
-        here = (struct parcel){sent, kawsarpa_answer_length(answer)};
+        here = event.sent;
         version = sent[0] >> 4;
-        fputs(": ", trip->account);
-        packet_describe(trip->account, here.octets, here.length);
-        fputc('\n', trip->account);
     }
     arrival.out = here;
     return arrival;
 }
 
-static bool same_address(const struct packet_reading *in, const struct packet_reading *out, const uint8_t *a, const uint8_t *b)
+static void say_verdict(struct trip *trip, const struct verdict *verdict)
 {
-    return in->version != 0 && in->version == out->version && memcmp(a, b, in->version == 4 ? 4 : 16) == 0;
+    verdict_say(trip->account, verdict);
 }
 
-static bool same_inner(const struct packet_reading *in, const struct packet_reading *out)
+static void json_verdict(struct trip *trip, const struct verdict *verdict)
 {
-    return in->inner != NULL && out->inner != NULL && in->inner_length == out->inner_length &&
-           memcmp(in->inner, out->inner, in->inner_length) == 0;
-}
-
-static const char changed[] = "  arrived, but not as it went in: ";
-
-/* Says what differs between what went in and what came out; true: nothing. What one of them does not have differs. */
-static bool compare(FILE *to, const struct packet_reading *in, const struct packet_reading *out)
-{
-    const bool gtpu = in->has_gtpu && out->has_gtpu;
-    const bool container = in->has_container && out->has_container;
-    const struct {
-        const char *name;
-        bool same;
-    } parts[] = {
-        /* over IPv4 the source is carried too; over IPv6 it is the far gateway's */
-        {"source", in->version != 4 || same_address(in, out, in->source, out->source)},
-        {"destination", same_address(in, out, in->destination, out->destination)},
-        {"TEID", gtpu && in->teid == out->teid},
-        {"QFI", container && in->qfi == out->qfi},
-        {"R", container && in->reflective == out->reflective},
-        {"direction", !container || in->pdu_type == out->pdu_type}, /* of a container that is missing QFI and R tell */
-        {"traffic class", in->traffic_class == out->traffic_class},
-        {"inner octets", same_inner(in, out)},
-    };
-    unsigned int differing = 0;
-    for (size_t i = 0; i < sizeof parts / sizeof parts[0]; i++)
-        if (!parts[i].same)
-            fprintf(to, "%s%s", differing++ == 0 ? changed : ", ", parts[i].name);
-    return differing == 0;
-}
-
-/* The same against the packet that is promised, octet for octet. */
-static bool hold_against(FILE *to, const struct promise *promise, const struct parcel *out)
-{
-    const bool kept = promise_kept(promise, out->octets, out->length);
-    if (!kept) {
-        fputs(changed, to);
-        promise_say_differences(to, promise, out->octets, out->length);
-    }
-    return kept;
-}
-
-/* The line about what came out; true: it is as it went in. Where nothing is promised the parts that the line names are compared. */
-static bool judge(FILE *to, const struct capture_packet *packet, const struct arrival *arrival)
-{
-    static struct promise promise;
-    const struct packet_reading in = packet_read(packet->octets, packet->length);
-    const struct packet_reading out = packet_read(arrival->out.octets, arrival->out.length);
-    const bool promised = promise_make(&promise, &in, arrival->near, arrival->far);
-    const bool same = promised ? hold_against(to, &promise, &arrival->out) : compare(to, &in, &out);
-    if (same)
-        fprintf(to, "  arrived with the destination, TEID, QFI, R, traffic class and %zu inner octets that went in", in.inner_length);
-    fputc('\n', to);
-    return same;
+    json_close(&trip->json); /* stops */
+    verdict_json(&trip->json, verdict);
+    json_close(&trip->json);
 }
 
 /* One packet's trip; the exit code, not 0 where what came out, or what is told of it, could not be written. */
 static int send_packet(struct trip *trip, const struct capture_packet *packet)
 {
-    fprintf(trip->account, "packet %lu: ", packet->number);
-    packet_describe(trip->account, packet->octets, packet->length);
-    fputc('\n', trip->account);
+    (trip->as_json ? json_packet : say_packet)(trip, packet);
     const struct arrival arrival = walk(trip, packet);
     const struct parcel *out = &arrival.out;
-    if (out->octets != NULL) {
-        trip->arrived++;
-        trip->unchanged += judge(trip->account, packet, &arrival);
-    }
+    const struct verdict verdict = arrival_judge(packet, &arrival);
+    (trip->as_json ? json_verdict : say_verdict)(trip, &verdict);
+    trip->arrived += verdict.arrived;
+    trip->unchanged += verdict_unchanged(&verdict);
     const int code = output_printed(trip->account);
     if (code != EXIT_DONE || out->octets == NULL)
         return code;
@@ -189,14 +174,28 @@ static int send_all(struct trip *trip)
     return code == EXIT_DONE ? trip->reader.code : code;
 }
 
-/* The last lines; the exit code that they make. */
-static int say_summary(const struct trip *trip)
+static void say_summary(struct trip *trip)
 {
-    const unsigned long packets = trip->reader.counts.packets;
     capture_say_counts(trip->account, &trip->reader.counts);
-    fprintf(trip->account, "%lu of %lu packets arrived, %lu of them with the destination, TEID, QFI, R, traffic class and inner octets "
-            "that went in\n", trip->arrived, packets, trip->unchanged);
-    return trip->unchanged == packets ? capture_end_code(&trip->reader) : EXIT_INPUT;
+    fprintf(trip->account,
+            "%lu of %lu packets arrived, %lu of them with the destination, TEID, QFI, R, traffic class and inner octets "
+            "that went in\n",
+            trip->arrived, trip->reader.counts.packets, trip->unchanged);
+}
+
+static void json_summary(struct trip *trip)
+{
+    json_close(&trip->json); /* packets */
+    capture_json(&trip->json, &trip->reader);
+    json_number(&trip->json, "arrived", trip->arrived);
+    json_number(&trip->json, "unchanged", trip->unchanged);
+    json_finish(&trip->json, false);
+}
+
+static int summarize(struct trip *trip)
+{
+    (trip->as_json ? json_summary : say_summary)(trip);
+    return trip->unchanged == trip->reader.counts.packets ? capture_end_code(&trip->reader) : EXIT_INPUT;
 }
 
 static int trip_into(struct trip *trip, const char *out)
@@ -210,19 +209,31 @@ static int trip_into(struct trip *trip, const char *out)
         return code;
     }
     code = out == NULL ? EXIT_DONE : output_commit(&trip->out);
-    return code == EXIT_DONE ? say_summary(trip) : code;
+    return code == EXIT_DONE ? summarize(trip) : code;
+}
+
+static void say_fit(struct trip *trip, const struct fit_way *way, const struct fit *fit)
+{
+    fprintf(trip->account, "tables: %u of %u near entries and rules fit\n", fit->fitting, fit->asked);
+    for (unsigned int i = 0; i < fit->record_count; i++)
+        if (fit_record_asked(&fit->records[i]) && !fit_record_fits(way, &fit->records[i]))
+            fit_say_record(trip->account, way, &fit->records[i]);
+}
+
+static void json_fit(struct trip *trip, const struct fit_way *way, const struct fit *fit)
+{
+    json_begin(&trip->json, trip->account, "trip");
+    fit_json(&trip->json, "tables", way, fit);
+    json_array(&trip->json, "packets");
 }
 
 /* Whether the tables fit, told before any packet; the trip is made all the same. */
-static void say_fit(const struct trip *trip)
+static void tell_fit(struct trip *trip)
 {
     const size_t far = trip->stop_count - 1;
     const struct fit_way way = {&trip->stops[0], &trip->stops[1], far - 1, &trip->stops[far], true};
     const struct fit fit = fit_judge(&way);
-    fprintf(trip->account, "tables: %u of %u near entries and rules fit\n", fit.fitting, fit.asked);
-    for (unsigned int i = 0; i < fit.record_count; i++)
-        if (fit_record_asked(&fit.records[i]) && !fit_record_fits(&way, &fit.records[i]))
-            fit_say_record(trip->account, &way, &fit.records[i]);
+    (trip->as_json ? json_fit : say_fit)(trip, &way, &fit);
 }
 
 static int trip_capture(struct trip *trip, const struct arguments *arguments)
@@ -230,8 +241,10 @@ static int trip_capture(struct trip *trip, const struct arguments *arguments)
     int code = capture_open(&trip->reader, arguments->in);
     if (code != EXIT_DONE)
         return code;
-    say_fit(trip);
+    tell_fit(trip);
     code = trip_into(trip, arguments->out);
+    if (json_open(&trip->json))
+        json_finish(&trip->json, true);
     capture_close(&trip->reader);
     return code;
 }
@@ -279,7 +292,7 @@ static void add_via(struct argp_state *state, struct arguments *arguments, const
 }
 
 /* Options without a short name have numbers past those of characters. */
-enum { OPTION_NEAR = 256, OPTION_VIA, OPTION_FAR };
+enum { OPTION_NEAR = 256, OPTION_VIA, OPTION_FAR, OPTION_JSON };
 
 static error_t parse(int key, char *value, struct argp_state *state)
 {
@@ -293,6 +306,9 @@ static error_t parse(int key, char *value, struct argp_state *state)
         return 0;
     case OPTION_FAR:
         arguments->far = value;
+        return 0;
+    case OPTION_JSON:
+        arguments->json = true;
         return 0;
     case 'q':
         arguments->quiet = true;
@@ -308,6 +324,8 @@ static error_t parse(int key, char *value, struct argp_state *state)
     case ARGP_KEY_END:
         if (arguments->near == NULL || arguments->far == NULL || arguments->in == NULL)
             argp_error(state, "--near, --far and a capture are needed");
+        options_exclude(state, arguments->json, "--json", arguments->quiet, "--quiet");
+        options_exclude(state, arguments->json, "--json", file_is_standard(arguments->out), "OUT.pcap on standard output");
         return 0;
     default:
         return ARGP_ERR_UNKNOWN;
@@ -319,6 +337,7 @@ static const struct argp_option option_list[] = {
     {"via", OPTION_VIA, "TABLE", 0, "the table of a waypoint; given once for each, in order of travel", 0},
     {"far", OPTION_FAR, "TABLE", 0, "the table of the gateway where packets come out", 0},
     {"output", 'o', "OUT.pcap", 0, "keep what comes out, as raw IP with the times of the packets that went in", 0},
+    {"json", OPTION_JSON, NULL, 0, json_option_words, 0},
     {"quiet", 'q', NULL, 0, "print nothing but faults; the exit code says whether every packet arrived", 0},
     {NULL, 0, NULL, 0, NULL, 0},
 };
@@ -349,9 +368,8 @@ int command_trip(int argc, char **argv)
 {
     struct arguments arguments = {0};
     argp_parse(&argp, argc, argv, 0, NULL, &arguments);
-    const bool to_standard_output = arguments.out != NULL && strcmp(arguments.out, "-") == 0;
-    struct trip trip = {.quiet = arguments.quiet};
-    trip.account = trip.quiet ? output_nowhere() : to_standard_output ? stderr : stdout;
+    struct trip trip = {.as_json = arguments.json, .quiet = arguments.quiet};
+    trip.account = trip.quiet ? output_nowhere() : file_is_standard(arguments.out) ? stderr : stdout;
     if (input_taken(&arguments) || (arguments.out != NULL && output_taken(&arguments, trip.account)))
         return EXIT_USAGE;
     int code = add_stops(&trip, &arguments);

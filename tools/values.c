@@ -59,8 +59,7 @@ bool value_number(const struct record_place *place, const char *field, const cha
     return value_refused(place, field, "%s is \"%.80s\", not a number from %u to %u", field, text, low, high);
 }
 
-bool value_octet(const struct record_place *place, const char *field, const char *text, unsigned int low, unsigned int high,
-                 uint8_t *octet)
+bool value_octet(const struct record_place *place, const char *field, const char *text, unsigned int low, unsigned int high, uint8_t *octet)
 {
     unsigned int number = 0;
     if (!value_number(place, field, text, low, high, &number))

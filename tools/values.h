@@ -14,8 +14,8 @@ enum { ARGS_OCTET_MOST = 11, P_MOST = 7, Q_MOST = 12 };
 /* A record of a description. */
 struct record_place {
     const struct text_source *source;
-    const char *list;  /* its key: "entries" */
-    const char *kind;  /* "entry" */
+    const char *list; /* its key: "entries" */
+    const char *kind; /* "entry" */
     unsigned int index;
     const char *name;
 };

@@ -45,6 +45,7 @@ const struct word *word_named(const struct word *words, const char *name)
 }
 
 /* By answer number. The first words are those of the table of answers; D4 is H.M.GTP4.D, what an IPv4 rule does. */
+/* clang-format off */
 static const struct answer_words answers[] = {
     {"No other number applies: the packet was translated, or passed on at a waypoint.",
      NULL,
@@ -137,6 +138,7 @@ static const struct answer_words answers[] = {
      "same.",
      "Report it to whoever writes the program that calls the library: it has to read and zero the row within that time."},
 };
+/* clang-format on */
 
 const struct answer_words *answer_words(unsigned long number)
 {
@@ -166,8 +168,8 @@ static const struct fault_words entry_faults[] = {
     {"the prefix reaches into Args", "Shorten the prefix to 8 bits for each octet before Args, or let Args start later.", "prefix"},
     {"p is over 7", "p octets, an IPv4 address and Args make an address: p is 7 at the most.", NULL},
     {"q is over 12", "q octets and an IPv4 address make an address: q is 12 at the most.", NULL},
-    {"the prefix has more than 8p bits",
-     "The IPv4 destination stands behind p octets: shorten the prefix, or raise p at both ends.", "prefix"},
+    {"the prefix has more than 8p bits", "The IPv4 destination stands behind p octets: shorten the prefix, or raise p at both ends.",
+     "prefix"},
     {"the reserved octet is not 0", "The table was made for another version of the library, or was damaged: compile it again.", NULL},
     {"an earlier entry has the same prefix and length", "Remove one of the two: the longest match has to be one entry.", "prefix"},
 };
@@ -194,6 +196,7 @@ static const struct fault_words policy_faults[] = {
 };
 
 /* By condition. */
+/* clang-format off */
 static const struct mismatch_words mismatches[] = {
     [KAWSARPA_MISMATCH_NEAR_UNSOUND] =
     {"The near table breaks a condition of its own, so that the near gateway refuses every packet with 1.",
@@ -252,6 +255,7 @@ static const struct mismatch_words mismatches[] = {
      "own, and refuses most with 7.",
      "Give the waypoint's address an End entry with a longer prefix, or shorten the other one; or mend the address in the near table."},
 };
+/* clang-format on */
 
 const struct mismatch_words *mismatch_words(unsigned int condition)
 {

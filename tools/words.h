@@ -12,7 +12,7 @@ struct word {
 };
 
 /* A list of words, closed by a name of NULL. */
-extern const struct word behaviours[];    /* RFC 8986, RFC 9433 */
+extern const struct word behaviours[]; /* RFC 8986, RFC 9433 */
 extern const struct word directions[];
 extern const struct word session_types[]; /* TS 24.501 */
 
@@ -34,7 +34,7 @@ const struct answer_words *answer_words(unsigned long number);
 struct fault_words {
     const char *broken; /* what is wrong with the record */
     const char *next;
-    const char *field;  /* the key of a description that says it, where one may; else NULL */
+    const char *field; /* the key of a description that says it, where one may; else NULL */
 };
 
 /* NULL for what is no condition of the record. */
