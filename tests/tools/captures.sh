@@ -332,6 +332,6 @@ rules:
 - {name: r, prefix: 0.0.0.0/0, hop-limit: 1, direction: uplink, session-type: IPv4, p: 0, q: 0, sid-prefix: "::", source-prefix: "::"}
 END
 run 0 compile "$work/everywhere.yaml" -o "$work/everywhere"
-python3 "$here/mutated.py" "$tool" "$work"/{office,gate,mast,crane,everywhere} "$work" 1 200
+python3 "$here/mutated.py" "$tool" "$work"/{office,gate,mast,crane,everywhere} "$work" 1 200 5000
 
 echo "captures.sh: all $checks checks hold"

@@ -50,6 +50,20 @@ member() { # PATH VALUE
     checks=$((checks + 1))
 }
 
+# A tool that holds the text of each run against its JSON first.
+cat >shim <<END
+#!/usr/bin/env bash
+"$python" -B "$here/json_told.py" "$tool" "$work/\${NAMES-names}" "\$@" || exit 98
+exec "$tool" "\$@"
+END
+chmod +x shim
+
+# the runs of match.sh, which are hundreds, beside all that follows
+mkdir matched
+NAMES=names.match TMPDIR=$work/matched "$here/match.sh" "$work/shim" >matched/output 2>&1 &
+matching=$!
+trap 'kill $matching 2>/dev/null || true; rm -rf "$work"' EXIT
+
 ### as it stands: members in their order, lines, the newline
 
 told 0 translate --table office downlink.pcap out.pcap
@@ -243,22 +257,6 @@ for arguments in 'translate --table office --trace - out.pcap' 'trip --near offi
     grep -q '^    {"number": 3, "in": {"version": 6, ' stdout || fail "no packets are printed before the capture has ended: $arguments"
 done
 
-### the runs of match.sh and promise.sh: a tool of that name that holds one against the other first
-
-shim() { # NAME TOOL
-    cat >"$1" <<END
-#!/usr/bin/env bash
-"$python" -B "$here/json_told.py" "$2" "$work/names" "\$@" || exit 98
-exec "$2" "\$@"
-END
-    chmod +x "$1"
-}
-mkdir shims
-shim shims/tool "$tool"
-shim shims/flipped "$flipped"
-"$here/match.sh" shims/tool >stdout 2>stderr || fail "match.sh, with --json beside each run"
-"$here/promise.sh" shims/tool shims/flipped >stdout 2>stderr || fail "promise.sh, with --json beside each run"
-
 # mutated captures and packets
 cat >everywhere.yaml <<'END'
 {format: 1, policies: [{name: p, last-sid: "::", args-octet: 0}],
@@ -268,10 +266,13 @@ cat >everywhere.yaml <<'END'
   source-prefix: "::"}]}
 END
 run 0 compile everywhere.yaml -o everywhere
-"$python" -B "$here/mutated.py" shims/tool office gate mast crane everywhere "$work" 2 10 >stdout 2>stderr || fail "a mutated capture"
+"$python" -B "$here/mutated.py" ./shim office gate mast crane everywhere "$work" 2 10 500 >stdout 2>stderr || fail "a mutated capture"
+
+wait $matching || fail "match.sh, with --json beside each run: $(cat matched/output)"
 
 ### the manual page lists every member that was seen, and no other
 
+cat names.match >>names
 tr ' ' '\n' <names | sort -u >seen
 sed -n '/^\.Sh JSON$/,/^\.Sh EX/s/^\.It Ic //p' "$here/../../man/kawsarpa.1" | tr -d , | tr -s ' ' '\n' | sort -u >listed
 diff listed seen >&2 || fail "kawsarpa(1) lists other members than are printed"

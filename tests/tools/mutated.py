@@ -1,5 +1,5 @@
-"""mutated.py TOOL OFFICE GATE MAST CRANE EVERYWHERE CAPTURES SEED COUNT: translate, trip and loss over COUNT mutated captures, and over
-packets mutated in sound ones.
+"""mutated.py TOOL OFFICE GATE MAST CRANE EVERYWHERE CAPTURES SEED COUNT PACKETS: translate, trip and loss over COUNT mutated captures, and
+for each link type over PACKETS packets mutated in sound ones.
 
 TOOL is best built with the sanitizers. OFFICE to CRANE are the yard's tables, EVERYWHERE one that leads every address to End.M.GTP6.D or to
 a rule, CAPTURES a directory that captures.py and the yard's make-capture.py have filled. Every run has to end with an exit code of the
@@ -18,7 +18,6 @@ from pathlib import Path
 LINKS = [1, 12, 14, 101, 113, 228, 229, 276]
 SEEDS = ["same-ethernet.pcap", "same-qinq.pcap", "same-cooked.pcap", "same-cooked-v2.pcap", "same-raw.pcap", "same-big-endian.pcap",
          "same-nanoseconds.pcap", "same-pcapng.pcap", "same-pcapng-raw.pcap", "snapped.pcap", "not-ip.pcap", "numbered.pcap"]
-PACKETS = 5000  # mutated packets for each link type
 TELLING = [0, 1, 2, 3, 4, 8, 16, 17, 20, 40, 41, 43, 60, 64, 127, 128, 143, 254, 255]
 
 
@@ -91,10 +90,10 @@ def accounted(loss: str) -> bool:
 
 
 def main() -> None:
-    if len(sys.argv) != 10:
-        sys.exit("usage: mutated.py TOOL OFFICE GATE MAST CRANE EVERYWHERE CAPTURES SEED COUNT")
+    if len(sys.argv) != 11:
+        sys.exit("usage: mutated.py TOOL OFFICE GATE MAST CRANE EVERYWHERE CAPTURES SEED COUNT PACKETS")
     tool, office, gate, mast, crane, everywhere = sys.argv[1:7]
-    captures, seed, count = Path(sys.argv[7]), int(sys.argv[8]), int(sys.argv[9])
+    captures, seed, count, drawn = Path(sys.argv[7]), int(sys.argv[8]), int(sys.argv[9]), int(sys.argv[10])
     draw = random.Random(seed)
     seeds = [(captures / name).read_bytes() for name in SEEDS]
     packets = frames_of((captures / "sent.expected").read_bytes()) + frames_of((captures / "same-raw.pcap").read_bytes())
@@ -126,12 +125,12 @@ def main() -> None:
                 sys.exit(f"mutated.py: seed {seed}, {what}: {'; '.join(faults)}; kept as {kept}")
 
         for link in LINKS:
-            capture.write_bytes(pcap(link, [mutate(draw, draw.choice(packets + framed)) for _ in range(PACKETS)]))
+            capture.write_bytes(pcap(link, [mutate(draw, draw.choice(packets + framed)) for _ in range(drawn)]))
             judge(f"packets of link type {link}")
         for number in range(count):
             capture.write_bytes(mutate(draw, draw.choice(seeds)))
             judge(f"capture {number}")
-    print(f"mutated.py: {count} mutated captures and {PACKETS * len(LINKS)} mutated packets, nothing amiss")
+    print(f"mutated.py: {count} mutated captures and {drawn * len(LINKS)} mutated packets, nothing amiss")
 
 
 if __name__ == "__main__":
