@@ -68,7 +68,8 @@ def text(x: float, y: float, words: str, size: int = 12, anchor: str = "start", 
 
 
 def box(x: float, y: float, width: float, height: float, fill: str, radius: int = 3) -> str:
-    return f'<rect x="{x:g}" y="{y:g}" width="{width:g}" height="{height:g}" rx="{radius}" fill="{fill}" stroke="{INK}" stroke-width="0.8"/>'
+    place = f'x="{x:g}" y="{y:g}" width="{width:g}" height="{height:g}" rx="{radius}"'
+    return f'<rect {place} fill="{fill}" stroke="{INK}" stroke-width="0.8"/>'
 
 
 def node(number: int) -> list[str]:
@@ -95,7 +96,8 @@ def link(number: int) -> list[str]:
     end = start + COLUMN - NODE_WIDTH
     middle, height = (start + end) / 2, NODE_TOP + NODE_HEIGHT / 2
     drawn = [
-        f'<line x1="{start + 2:g}" y1="{height:g}" x2="{end - 9:g}" y2="{height:g}" stroke="{INK}" stroke-width="2" marker-end="url(#arrow)"/>',
+        f'<line x1="{start + 2:g}" y1="{height:g}" x2="{end - 9:g}" y2="{height:g}" stroke="{INK}" stroke-width="2" '
+        'marker-end="url(#arrow)"/>',
         f'<line x1="{middle:g}" y1="{height + 6:g}" x2="{middle:g}" y2="{CARD_TOP - 22}" stroke="{LINK}" stroke-dasharray="3 3"/>',
         text(middle, CARD_TOP - 8, f"{octets} octets", 12, "middle", "bold"),
     ]
@@ -125,8 +127,8 @@ def main() -> None:
     parts += [
         text(WIDTH / 2, HEIGHT - 46, "The near gateway takes UDP and GTP-U off and puts *TEID, QFI and R* into the SID of the far gateway. "
              "Each waypoint sends the packet on to the next segment.", 12, "middle"),
-        text(WIDTH / 2, HEIGHT - 26, "The far gateway writes the GTP-U header anew: same destination, traffic class, TEID, QFI, R and inner "
-             "octets. What comes out is proved, octet for octet.", 12, "middle"),
+        text(WIDTH / 2, HEIGHT - 26, "The far gateway writes the GTP-U header anew: same destination, traffic class, TEID, QFI, R and "
+             "inner octets. What comes out is proved, octet for octet.", 12, "middle"),
         "</svg>",
     ]
     print("\n".join(parts))

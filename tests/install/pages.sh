@@ -97,7 +97,8 @@ gcc -std=c99 -I "$top/include" -E -dM "$work/alone.c" >"$work/macros"
     sed -n 's/^#define \(KAWSARPA_[A-Z0-9_]*\) ..*/\1/p' "$work/macros" # KAWSARPA_H alone has no value
     sed -n 's/^ *\(KAWSARPA_[A-Z0-9_]*\) = .*/\1/p' "$top/include/kawsarpa.h"
 } | sort >"$work/constants"
-same "kawsarpa(3): not the constants of the header" "$(cat "$work/constants")" "$(grep -oE '\bKAWSARPA_[A-Z0-9_]*' "$library_page" | sort -u)"
+same "kawsarpa(3): not the constants of the header" "$(cat "$work/constants")" \
+    "$(grep -oE '\bKAWSARPA_[A-Z0-9_]*' "$library_page" | sort -u)"
 same "kawsarpa(3): a constant has another number" "" \
     "$(sed -n 's/^\.It \([0-9]*\) Ta Dv \([A-Z0-9_]*\) .*/    \2 = \1/p' "$library_page" |
         while read -r line; do grep -qE "^ +$line(,| |\$)" "$top/include/kawsarpa.h" || echo "$line"; done)"

@@ -25,7 +25,8 @@ def number(shown: dict[str, str], field: str) -> int:
 
 
 def conditions(call: str, shown: dict[str, str]) -> dict[str, bool]:
-    """What docs/RULES.md, Answers 2, 3, 5 and 7 to 11, asks, and order 13. Of another version or PT than 1 tshark makes another protocol."""
+    """What docs/RULES.md, Answers 2, 3, 5 and 7 to 11, asks, and order 13. Of another version or PT than 1 tshark makes another
+    protocol."""
     chain = next((chain for chain in CHAINS[call] if f"{shown['frame.protocols']}:".startswith(f"{chain}:")), "")
     chained, routed = chain != "", "ipv6.routing" in chain
     if call == "ipv6":

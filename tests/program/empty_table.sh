@@ -18,11 +18,14 @@ packet() { # PAYLOAD-LENGTH-IN-OCTAL-ESCAPES OCTETS
 
 expect() { # ANSWER OCTETS-NOT-READ
     { "$program" >"$work/answer"; wc -c >"$work/rest"; } <"$work/packet"
-    if [ "$(cat "$work/answer")" != "$1" ] || [ "$(tr -d ' ' <"$work/rest")" != "$2" ]; then
-        echo "program: $(stat -c %s "$work/packet") octets: expected '$1' and $2 octets not read, found '$(cat "$work/answer")' and $(tr -d ' ' <"$work/rest")" >&2
+    answer=$(cat "$work/answer")
+    rest=$(tr -d ' ' <"$work/rest")
+    size=$(stat -c %s "$work/packet")
+    if [ "$answer" != "$1" ] || [ "$rest" != "$2" ]; then
+        echo "program: $size octets: expected '$1' and $2 octets not read, found '$answer' and $rest" >&2
         exit 1
     fi
-    echo "program: $(stat -c %s "$work/packet") octets: $1"
+    echo "program: $size octets: $1"
 }
 
 packet '\000\000' 39

@@ -36,7 +36,8 @@ for file in stdin stdout; do
         exit 1
     fi
 done
-echo "worked: $(wc -l <"$crate/stdout") calls, $(cat "$crate/stdin" "$crate/stdout" | wc -c) octets of data, as the second program writes them"
+octets=$(cat "$crate/stdin" "$crate/stdout" | wc -c)
+echo "worked: $(wc -l <"$crate/stdout") calls, $octets octets of data, as the second program writes them"
 
 # the interpreter does 10,000,000 steps at most, too few for the long packets
 write "$work/crates/worked" --per-kind 80 --max-worked 400

@@ -311,7 +311,8 @@ nothing_printed
 # the field guide tells each answer, under its name
 for number in {0..16} 25 26; do
     name=$("$tool" explain "$number" | sed -n "s/^$number: //p")
-    grep -qF -e "- **$number $name**: " -e "| $number $name |" "$here/../../docs/FIELD-GUIDE.md" || fail "not in the field guide: $number $name"
+    grep -qF -e "- **$number $name**: " -e "| $number $name |" "$here/../../docs/FIELD-GUIDE.md" ||
+        fail "not in the field guide: $number $name"
     checks=$((checks + 1))
 done
 

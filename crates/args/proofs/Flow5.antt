@@ -1,4 +1,5 @@
--- Flow 5 with the reflective bit, at any TEID: 0x45 in a container, 0x16 in Args. The low six bits of 0x16 are 22, so a reading that confuses the two places shows here.
+-- Flow 5 with the reflective bit, at any TEID: 0x45 in a container, 0x16 in Args. The low six bits of 0x16 are 22, so a reading that
+-- confuses the two places shows here.
 use mathlib.Core.Path.{_≡_, refl}
 use mathlib.Core.List.{List, _∷_}
 use Prim.Native.Nat.{ℕ, _%_}

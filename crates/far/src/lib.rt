@@ -1,9 +1,9 @@
 // The far end, where SRv6 becomes GTP-U: E6, End.M.GTP6.E (RFC 9433, 6.5), and E4, End.M.GTP4.E (6.6).
 use answer::Answer;
+use records::entry;
 use rules::Refusal;
 use rules::Verdict;
 use rules::assigned;
-use table::entry;
 ghost use mathlib.Core.Path.{_≡_};
 ghost use mathlib.Core.Bool.{not};
 ghost use mathlib.Core.List.{[], _∷_, _++_};

@@ -2,10 +2,10 @@
 use answer::Answer;
 use near::d4;
 use near::gtp6d;
+use records::entry;
 use rules::Found;
 use rules::Refusal;
 use rules::assigned;
-use table::entry;
 ghost use mathlib.Core.Path.{_≡_};
 ghost use mathlib.Core.Bool.{true};
 ghost use lib.ListN.{length};
@@ -42,7 +42,7 @@ fn at_entry(
     ensures { λ a. ⌜ Answered (settle (length (now (out .entry))) (atEntry (now (table .entry)) (entryAt (now (table .entry)) i)
         (now (packet .entry)))) (now (out .entry)) a (now (out .exit)) ⌝ }
 {
-    let e = table::entry_at(table, i);
+    let e = records::entry_at(table, i);
     let behaviour = e[entry::BEHAVIOUR];
     if behaviour == assigned::END {
         return waypoint::at_waypoint(h, front, packet, out);
@@ -53,7 +53,7 @@ fn at_entry(
     if behaviour == assigned::END_M_GTP4_E {
         return far::at_e4(e, h, packet, out);
     }
-    let policy = table::policy_at(table, octets::wide(e[entry::POLICY]));
+    let policy = records::policy_at(table, octets::wide(e[entry::POLICY]));
     gtp6d::at_gtp6d(e, policy, gtp6d::tail_of(behaviour), h, packet, out)
 }
 
@@ -69,7 +69,7 @@ fn at_match(
     ensures { λ d. ⌜ Matches6 (now (packet .entry)) (now (table .entry)) h (now (out .entry)) d (now (out .exit)) ⌝ }
 {
     let destination = octets::window16(packet, 24);
-    let found = table::find_entry(table, &destination);
+    let found = matching::find_entry(table, &destination);
     match found {
         Found::Nothing => Decided {
             answer: Answer::refused(Refusal::no_match()),
@@ -122,7 +122,7 @@ fn at_match4(table: &[u8], h: rules::Header4, packet: &[u8], out: &mut [u8]) -> 
     ensures { λ d. ⌜ Matches4 (now (packet .entry)) (now (table .entry)) (now (out .entry)) d (now (out .exit)) ⌝ }
 {
     let destination = octets::window4(packet, 16);
-    let found = table::find_rule(table, &destination);
+    let found = matching::find_rule(table, &destination);
     match found {
         Found::Nothing => Decided {
             answer: Answer::refused(Refusal::no_match()),
@@ -130,7 +130,7 @@ fn at_match4(table: &[u8], h: rules::Header4, packet: &[u8], out: &mut [u8]) -> 
             upperAt: IPV4_SIZE,
         },
         Found::At(k) => {
-            let r = table::rule_at(table, k);
+            let r = records::rule_at(table, k);
             let answer = d4::at_d4(r, h, packet, out);
             Decided {
                 answer,

@@ -13,7 +13,8 @@ ghost use Rattle.pair.specs.Mismatch.{mismatch6, mismatch4, mismatchWaypoint};
 #[no_mangle]
 pub extern "C" fn kawsarpa_translate_ipv6(packet: &[u8], table: &[u8], out: &mut [u8]) -> u64
     ensures { λ r. ⌜ (r ≡ packed (translate6 (now (packet .entry)) (now (table .entry)) (length (now (out .entry)))))
-        × (now (out .exit) ≡ overlay (translate6 (now (packet .entry)) (now (table .entry)) (length (now (out .entry)))) (now (out .entry))) ⌝ }
+        × (now (out .exit) ≡ overlay (translate6 (now (packet .entry)) (now (table .entry)) (length (now (out .entry)))) (now (out .entry)))
+        ⌝ }
 {
     gateway::translate_ipv6(packet, table, out).pack()
 }
@@ -22,7 +23,8 @@ pub extern "C" fn kawsarpa_translate_ipv6(packet: &[u8], table: &[u8], out: &mut
 #[no_mangle]
 pub extern "C" fn kawsarpa_translate_ipv4(packet: &[u8], table: &[u8], out: &mut [u8]) -> u64
     ensures { λ r. ⌜ (r ≡ packed (translate4 (now (packet .entry)) (now (table .entry)) (length (now (out .entry)))))
-        × (now (out .exit) ≡ overlay (translate4 (now (packet .entry)) (now (table .entry)) (length (now (out .entry)))) (now (out .entry))) ⌝ }
+        × (now (out .exit) ≡ overlay (translate4 (now (packet .entry)) (now (table .entry)) (length (now (out .entry)))) (now (out .entry)))
+        ⌝ }
 {
     gateway::translate_ipv4(packet, table, out).pack()
 }
@@ -31,7 +33,8 @@ pub extern "C" fn kawsarpa_translate_ipv4(packet: &[u8], table: &[u8], out: &mut
 #[no_mangle]
 pub extern "C" fn kawsarpa_waypoint(packet: &[u8], table: &[u8], out: &mut [u8]) -> u64
     ensures { λ r. ⌜ (r ≡ packed (translate6 (now (packet .entry)) (now (table .entry)) (length (now (out .entry)))))
-        × (now (out .exit) ≡ overlay (translate6 (now (packet .entry)) (now (table .entry)) (length (now (out .entry)))) (now (out .entry))) ⌝ }
+        × (now (out .exit) ≡ overlay (translate6 (now (packet .entry)) (now (table .entry)) (length (now (out .entry)))) (now (out .entry)))
+        ⌝ }
 {
     kawsarpa_translate_ipv6(packet, table, out)
 }

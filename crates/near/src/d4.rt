@@ -1,9 +1,9 @@
 // D4: H.M.GTP4.D (RFC 9433, 6.7).
 use answer::Answer;
 use path::gpdu;
+use records::rule;
 use rules::Refusal;
 use rules::Verdict;
-use table::rule;
 ghost use mathlib.Core.Path.{_≡_};
 ghost use mathlib.Core.Bool.{cond};
 ghost use mathlib.Core.List.{[], _∷_, _++_};

@@ -2,10 +2,10 @@
 use answer::Answer;
 use path::PathPlan;
 use path::gpdu;
+use records::entry;
 use rules::Refusal;
 use rules::Verdict;
 use rules::assigned;
-use table::entry;
 ghost use mathlib.Core.Path.{_≡_};
 ghost use mathlib.Core.List.{_++_};
 ghost use Prim.Native.Nat.{_≤_};
@@ -89,9 +89,9 @@ fn plan_of(
     requires { ⌜ (length (now e) ≡ 64) × (length (now policy) ≡ 288) × SoundPolicy (now policy) ⌝ }
     ensures { λ r. ⌜ r ≡ pathPlan tail (now (e .entry)) (now (policy .entry)) class (value args) first to place size ⌝ }
 {
-    let n = octets::wide(policy[table::policy::SID_COUNT]);
-    let last = octets::window16(policy, table::policy::SIDS + 16 * (n - 1));
-    let sid = args.in_sid(last, policy[table::policy::START]);
+    let n = octets::wide(policy[records::policy::SID_COUNT]);
+    let last = octets::window16(policy, records::policy::SIDS + 16 * (n - 1));
+    let sid = args.in_sid(last, policy[records::policy::START]);
     let source = octets::window16(e, entry::SOURCE);
     PathPlan {
         trafficClass: class,
@@ -102,7 +102,7 @@ fn plan_of(
         end: to,
         tail,
         waypoints: n - 1,
-        from: table::policy::SIDS,
+        from: records::policy::SIDS,
         place,
         size,
     }
@@ -121,7 +121,7 @@ pub fn at_gtp6d(
     ensures { λ a. ⌜ Answered (settle (length (now (out .entry))) (atGtp6D tail (now (e .entry)) (now (policy .entry))
         (now (packet .entry)))) (now (out .entry)) a (now (out .exit)) ⌝ }
 {
-    let count = octets::wide(policy[table::policy::SID_COUNT]) - 1 + tail;
+    let count = octets::wide(policy[records::policy::SID_COUNT]) - 1 + tail;
     let head = 48 + 16 * count;
     let at = h.upperAt as usize;
     let g = gtpu::datagram_at(packet, at);

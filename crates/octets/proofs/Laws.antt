@@ -5,7 +5,8 @@ use Prim.Native.Nat.{ℕ, _+_, _-_, _≤_, _<_}
 use native.Mathlib.Nat.{add-zero, zero-add, add-assoc, add-sub-of-le, le-refl, add-sub-cancel-left}
 use native.Mathlib.Omega.{arith}
 use lib.ListN.{length, take, drop, getD, length-append, length-drop, take-append-drop, drop-of-length-le, List·getD-append}
-use lib.Seq.{take-all, sets, sets-eq, paste, take-length, length-take-le, take-at, drop-at, drop-append-add, drop-drop, take-add, getD-append-add, getD-drop, getD-take, take-take, take-append-le, drop-append-le}
+use lib.Seq.{take-all, sets, sets-eq, paste, take-length, length-take-le, take-at, drop-at, drop-append-add, drop-drop, take-add}
+use lib.Seq.{getD-append-add, getD-drop, getD-take, take-take, take-append-le, drop-append-le}
 use Rattle.rules.specs.Octets.{splice}
 use Rattle.octets.specs.Run.{Run}
 
@@ -52,15 +53,18 @@ splice-next o a x y h =
     ∙ ap (λ (t : List ℕ). t ++ drop (a + length (x ++ y)) o) (append-assoc (take a o) x y)
 
 -- the same, from what two writers say: o₁ is o with x at a, and o₂ is o₁ with y right after
-pub chain : (o : List ℕ) (a : ℕ) (x y : List ℕ) {o₁ o₂ : List ℕ} {b : ℕ} → o₁ ≡ splice o a x → o₂ ≡ splice o₁ b y → b ≡ a + length x → a ≤ length o → o₂ ≡ splice o a (x ++ y)
+pub chain : (o : List ℕ) (a : ℕ) (x y : List ℕ) {o₁ o₂ : List ℕ} {b : ℕ} → o₁ ≡ splice o a x → o₂ ≡ splice o₁ b y → b ≡ a + length x
+    → a ≤ length o → o₂ ≡ splice o a (x ++ y)
 chain o a x y {o₁} {o₂} {b} e f n h =
     f ∙ ap (λ (l : List ℕ). splice l b y) e ∙ ap (λ (k : ℕ). splice (splice o a x) k y) n ∙ splice-next o a x y h
 
 -- the first d octets of s stand at a, and the n after them are put right after
-pub chain-part : (o s : List ℕ) (a d n : ℕ) {o₁ o₂ : List ℕ} → o₁ ≡ splice o a (take d s) → o₂ ≡ splice o₁ (a + d) (take n (drop d s)) → d ≤ length s → a ≤ length o
+pub chain-part : (o s : List ℕ) (a d n : ℕ) {o₁ o₂ : List ℕ} → o₁ ≡ splice o a (take d s) → o₂ ≡ splice o₁ (a + d) (take n (drop d s))
+    → d ≤ length s → a ≤ length o
     → o₂ ≡ splice o a (take (d + n) s)
 chain-part o s a d n e f h l =
-    chain o a (take d s) (take n (drop d s)) e f (ap (λ (k : ℕ). a + k) (sym (length-take-le d s h))) l ∙ ap (splice o a) (sym (take-add d n s))
+    chain o a (take d s) (take n (drop d s)) e f (ap (λ (k : ℕ). a + k) (sym (length-take-le d s h))) l
+    ∙ ap (splice o a) (sym (take-add d n s))
 
 -- a run of stores
 pub sets-splice : (x o : List ℕ) (a : ℕ) → a + length x ≤ length o → sets o a x ≡ splice o a x
@@ -116,7 +120,8 @@ splice-before o a x i d h m =
     ∙ List·getD-append (take a o) (x ++ drop (a + length x) o) d i (rw (length-take-le a o h) m)
     ∙ getD-take a o i d m
 
-pub splice-after : (o : List ℕ) (a : ℕ) (x : List ℕ) (i d : ℕ) → a ≤ length o → getD (splice o a x) (a + length x + i) d ≡ getD o (a + length x + i) d
+pub splice-after : (o : List ℕ) (a : ℕ) (x : List ℕ) (i d : ℕ) → a ≤ length o
+    → getD (splice o a x) (a + length x + i) d ≡ getD o (a + length x + i) d
 unfolding splice
 splice-after o a x i d h =
     ap (λ (k : ℕ). getD (splice o a x) (k + i) d) (sym (head-length o a x h))
@@ -163,12 +168,14 @@ pub back-tail : (o : List ℕ) (a : ℕ) (r : List ℕ) → take a o ++ (r ++ dr
 back-tail o a r =
     rw (drop-of-length-le (drop a o) {i = length o - a} (simp length-drop (le-refl (length o - a))), append-nil)
 
-pub lent-tail : (o : List ℕ) (a b : ℕ) (x : List ℕ) {r : List ℕ} → r ≡ splice (take (length o - a) (drop a o)) b x → a + b + length x ≤ length o
+pub lent-tail : (o : List ℕ) (a b : ℕ) (x : List ℕ) {r : List ℕ} → r ≡ splice (take (length o - a) (drop a o)) b x
+    → a + b + length x ≤ length o
     → take a o ++ (r ++ drop (length o - a) (drop a o)) ≡ splice o (a + b) x
 lent-tail o a b x {r} e h = ap (λ (l : List ℕ). take a o ++ (l ++ drop (length o - a) (drop a o))) e ∙ splice-tail o a b x h
 
 -- a piece is put right before one that stands there already
-pub splice-prev : (o : List ℕ) (a : ℕ) (x y : List ℕ) → a + length x + length y ≤ length o → splice (splice o (a + length x) y) a x ≡ splice o a (x ++ y)
+pub splice-prev : (o : List ℕ) (a : ℕ) (x y : List ℕ) → a + length x + length y ≤ length o
+    → splice (splice o (a + length x) y) a x ≡ splice o a (x ++ y)
 unfolding splice
 splice-prev o a x y h =
     let n : ℕ = a + length x in
@@ -176,14 +183,16 @@ splice-prev o a x y h =
     let rest : List ℕ = drop (n + length y) o in
     let l : length p ≡ n = length-take-le n o (omega arith) in
     ap (λ (t : List ℕ). take a t ++ x ++ drop n (p ++ y ++ rest)) (append-assoc p y rest)
-    ∙ ap (λ (t : List ℕ). t ++ x ++ drop n (p ++ y ++ rest)) (take-append-le a p (y ++ rest) (rw l (omega arith)) ∙ take-take a n o (omega arith))
+    ∙ ap (λ (t : List ℕ). t ++ x ++ drop n (p ++ y ++ rest))
+    (take-append-le a p (y ++ rest) (rw l (omega arith)) ∙ take-take a n o (omega arith))
     ∙ ap (λ (t : List ℕ). take a o ++ x ++ drop n t) (append-assoc p y rest)
     ∙ ap (λ (t : List ℕ). take a o ++ x ++ t) (drop-at p (y ++ rest) n l)
     ∙ sym (append-assoc (take a o ++ x) y rest)
     ∙ ap (λ (t : List ℕ). t ++ rest) (append-assoc (take a o) x y)
     ∙ ap (λ (k : ℕ). take a o ++ (x ++ y) ++ drop k o) (add-assoc a (length x) (length y) ∙ ap (λ (k : ℕ). a + k) (sym (length-append x y)))
 
-pub chain-prev : (o : List ℕ) (a : ℕ) (x y : List ℕ) {o₁ o₂ : List ℕ} {b : ℕ} → o₁ ≡ splice o b y → o₂ ≡ splice o₁ a x → b ≡ a + length x → a + length x + length y ≤ length o → o₂ ≡ splice o a (x ++ y)
+pub chain-prev : (o : List ℕ) (a : ℕ) (x y : List ℕ) {o₁ o₂ : List ℕ} {b : ℕ} → o₁ ≡ splice o b y → o₂ ≡ splice o₁ a x → b ≡ a + length x
+    → a + length x + length y ≤ length o → o₂ ≡ splice o a (x ++ y)
 chain-prev o a x y {o₁} {o₂} {b} e f n h =
     f ∙ ap (λ (l : List ℕ). splice l a x) e ∙ ap (λ (k : ℕ). splice (splice o k y) a x) n ∙ splice-prev o a x y h
 
@@ -204,4 +213,7 @@ run-count e r = record { holds = r .holds; count = r .count ∙ e }
 
 -- the same octets, said otherwise
 pub run-as : {o : List ℕ} {a n : ℕ} {x y o′ : List ℕ} → Run o a n x o′ → x ≡ y → Run o a n y o′
-run-as {o} {a} {n} {x} {y} {o′} r e = record { holds = r .holds ∙ ap (λ (l : List ℕ). splice o a l) e; count = sym (ap length e) ∙ r .count }
+run-as {o} {a} {n} {x} {y} {o′} r e = record {
+  holds = r .holds ∙ ap (λ (l : List ℕ). splice o a l) e;
+  count = sym (ap length e) ∙ r .count;
+}

@@ -14,7 +14,8 @@ pub window-part : (p : List ℕ) (i n : ℕ) → i + n ≤ length p → window p
 unfolding window
 window-part p i zero h = refl
 window-part p i (suc n) h =
-    ap (λ (l : List ℕ). octet p i ∷ l) (window-part p (suc i) n (omega arith)) ∙ ap (λ (l : List ℕ). take (suc n) l) (sym (drop-cons p i 0 (omega arith)))
+    ap (λ (l : List ℕ). octet p i ∷ l) (window-part p (suc i) n (omega arith))
+    ∙ ap (λ (l : List ℕ). take (suc n) l) (sym (drop-cons p i 0 (omega arith)))
 
 -- one more store at the front
 pub paste-front : (d s : List ℕ) (j : ℕ) → j < length d → j < length s → set (paste d 0 s j) j (getD s j 0) ≡ paste d 0 s (suc j)
@@ -40,4 +41,5 @@ padded (x ∷ xs) (suc n) h = ap (λ (l : List ℕ). x ∷ l) (padded xs n (omeg
 -- n zeros that take what is left from i on, at most n octets
 pub rest-window : (p : List ℕ) (i n : ℕ) → length p - i ≤ n → splice (replicate n 0) 0 (drop i p) ≡ window p i n
 rest-window p i n h =
-    splice-front (replicate n 0) (drop i p) ∙ padded (drop i p) n (rw length-drop h) ∙ window-drop p i 0 n ∙ ap (λ (k : ℕ). window p k n) (add-zero i)
+    splice-front (replicate n 0) (drop i p) ∙ padded (drop i p) n (rw length-drop h) ∙ window-drop p i 0 n
+    ∙ ap (λ (k : ℕ). window p k n) (add-zero i)

@@ -6,10 +6,10 @@ ghost use Rattle.rules.specs.Table.{entries, rulesAt};
 ghost use Rattle.rules.specs.Rule as Rule;
 ghost use Rattle.rules.specs.Policy as Policy;
 ghost use Rattle.pair.specs.Mismatch.{between6, between4, atFar6, atFar4, mismatch6, mismatch4, mismatchWaypoint};
+use records::entry;
+use records::rule;
 use rules::Found;
 use rules::assigned;
-use table::entry;
-use table::rule;
 
 // Near and far.
 const NEAR_UNSOUND: u64 = 1;
@@ -50,20 +50,20 @@ fn between6(e: &[u8], policy: &[u8], f: &[u8]) -> u8
     requires { ⌜ (length (now e) ≡ 64) × (length (now policy) ≡ 288) × (length (now f) ≡ 64) ⌝ }
     ensures { λ r. ⌜ r ≡ between6 (now (e .entry)) (now (policy .entry)) (now (f .entry)) ⌝ }
 {
-    let waypoints = octets::saturating_sub(octets::wide(policy[table::policy::SID_COUNT]), 1);
-    let from_12 = table::unless(waypoints < octets::wide(e[entry::HOP_LIMIT]), HOP_LIMIT, 0);
-    let from_9 = table::unless(
-        f[entry::START] == policy[table::policy::START],
+    let waypoints = octets::saturating_sub(octets::wide(policy[records::policy::SID_COUNT]), 1);
+    let from_12 = conditions::unless(waypoints < octets::wide(e[entry::HOP_LIMIT]), HOP_LIMIT, 0);
+    let from_9 = conditions::unless(
+        f[entry::START] == policy[records::policy::START],
         START,
         from_12,
     );
-    let from_8 = table::unless(f[entry::SESSION] == e[entry::SESSION], SESSION, from_9);
-    let from_7 = table::unless(
+    let from_8 = conditions::unless(f[entry::SESSION] == e[entry::SESSION], SESSION, from_9);
+    let from_7 = conditions::unless(
         f[entry::DIRECTION] == e[entry::DIRECTION],
         DIRECTION,
         from_8,
     );
-    table::unless(f[entry::BEHAVIOUR] == assigned::END_M_GTP6_E, KIND, from_7)
+    conditions::unless(f[entry::BEHAVIOUR] == assigned::END_M_GTP6_E, KIND, from_7)
 }
 
 // Near rule r, and far entry f.
@@ -71,12 +71,12 @@ fn between4(r: &[u8], f: &[u8]) -> u8
     requires { ⌜ (length (now r) ≡ 160) × (length (now f) ≡ 64) ⌝ }
     ensures { λ n. ⌜ n ≡ between4 (now (r .entry)) (now (f .entry)) ⌝ }
 {
-    let from_12 = table::unless(r[rule::WAYPOINT_COUNT] < r[rule::HOP_LIMIT], HOP_LIMIT, 0);
-    let from_11 = table::unless(f[entry::Q] == r[rule::Q], Q, from_12);
-    let from_10 = table::unless(f[entry::P] == r[rule::P], P, from_11);
-    let from_8 = table::unless(f[entry::SESSION] == r[rule::SESSION], SESSION, from_10);
-    let from_7 = table::unless(f[entry::DIRECTION] == r[rule::DIRECTION], DIRECTION, from_8);
-    table::unless(f[entry::BEHAVIOUR] == assigned::END_M_GTP4_E, KIND, from_7)
+    let from_12 = conditions::unless(r[rule::WAYPOINT_COUNT] < r[rule::HOP_LIMIT], HOP_LIMIT, 0);
+    let from_11 = conditions::unless(f[entry::Q] == r[rule::Q], Q, from_12);
+    let from_10 = conditions::unless(f[entry::P] == r[rule::P], P, from_11);
+    let from_8 = conditions::unless(f[entry::SESSION] == r[rule::SESSION], SESSION, from_10);
+    let from_7 = conditions::unless(f[entry::DIRECTION] == r[rule::DIRECTION], DIRECTION, from_8);
+    conditions::unless(f[entry::BEHAVIOUR] == assigned::END_M_GTP4_E, KIND, from_7)
 }
 
 // The entry of a far table that is reached, and its conditions.
@@ -85,15 +85,20 @@ fn at_far6(e: &[u8], policy: &[u8], far: &[u8]) -> u64
         × (rulesAt (now far) ≤ length (now far)) × (entries (now far) ≤ 64) ⌝ }
     ensures { λ r. ⌜ r ≡ atFar6 (now (e .entry)) (now (policy .entry)) (now (far .entry)) ⌝ }
 {
-    let before = octets::saturating_sub(octets::wide(policy[table::policy::SID_COUNT]), 1);
-    let last = octets::window16(policy, table::policy::SIDS + 16 * before);
-    let found = reach::reach6(far, e[entry::DIRECTION], last, policy[table::policy::START]);
+    let before = octets::saturating_sub(octets::wide(policy[records::policy::SID_COUNT]), 1);
+    let last = octets::window16(policy, records::policy::SIDS + 16 * before);
+    let found = reach::reach6(
+        far,
+        e[entry::DIRECTION],
+        last,
+        policy[records::policy::START],
+    );
     match found {
         Found::Nothing => NO_ENTRY,
         Found::At(j) => table::told(
             table::ENTRY,
             j,
-            between6(e, policy, table::entry_at(far, j)),
+            between6(e, policy, records::entry_at(far, j)),
         ),
     }
 }
@@ -106,7 +111,7 @@ fn at_far4(r: &[u8], far: &[u8]) -> u64
     let found = reach::reach4(far, r);
     match found {
         Found::Nothing => NO_ENTRY,
-        Found::At(j) => table::told(table::ENTRY, j, between4(r, table::entry_at(far, j))),
+        Found::At(j) => table::told(table::ENTRY, j, between4(r, records::entry_at(far, j))),
     }
 }
 
@@ -120,14 +125,14 @@ pub fn mismatch6(near: &[u8], far: &[u8], i: usize) -> u64
     if !table::sound(far) {
         return FAR_UNSOUND;
     }
-    if table::entries(near) <= i {
+    if records::entries(near) <= i {
         return NO_RECORD;
     }
-    let e = table::entry_at(near, i);
+    let e = records::entry_at(near, i);
     if e[entry::BEHAVIOUR] != assigned::END_M_GTP6_D_DI {
         return NOT_DI;
     }
-    let policy = table::policy_at(near, octets::wide(e[entry::POLICY]));
+    let policy = records::policy_at(near, octets::wide(e[entry::POLICY]));
     at_far6(e, policy, far)
 }
 
@@ -141,10 +146,10 @@ pub fn mismatch4(near: &[u8], far: &[u8], k: usize) -> u64
     if !table::sound(far) {
         return FAR_UNSOUND;
     }
-    if table::rules(near) <= k {
+    if records::rules(near) <= k {
         return NO_RECORD;
     }
-    at_far4(table::rule_at(near, k), far)
+    at_far4(records::rule_at(near, k), far)
 }
 
 // A waypoint's table, and the SID that leads there.
@@ -161,8 +166,12 @@ pub fn mismatch_waypoint(table: &[u8], sid: &[u8]) -> u64
     match found {
         Found::Nothing => WAYPOINT_NO_ENTRY,
         Found::At(i) => {
-            let waypoint = table::entry_at(table, i)[entry::BEHAVIOUR] == assigned::END;
-            table::told(table::ENTRY, i, table::unless(waypoint, WAYPOINT_KIND, 0))
+            let waypoint = records::entry_at(table, i)[entry::BEHAVIOUR] == assigned::END;
+            table::told(
+                table::ENTRY,
+                i,
+                conditions::unless(waypoint, WAYPOINT_KIND, 0),
+            )
         }
     }
 }

@@ -3,7 +3,8 @@ use mathlib.Core.Path.{_≡_, refl, ap, sym, _∙_}
 use mathlib.Core.Bool.{Bool, true, false}
 use mathlib.Core.List.{List}
 use Prim.Native.Nat.{ℕ, _+_, _*_, _-_, _^_, _/_, _%_, _<_, _≤_}
-use native.Mathlib.Nat.{add-zero, zero-add, zero-mul, mul-assoc, mul-mod-left, mul-add-div-right, mul-add-mod-self-right, mod-eq-of-lt, div-eq-of-lt, zero-div}
+use native.Mathlib.Nat.{add-zero, zero-add, zero-mul, mul-assoc, mul-mod-left, mul-add-div-right, mul-add-mod-self-right, mod-eq-of-lt}
+use native.Mathlib.Nat.{div-eq-of-lt, zero-div}
 use native.Mathlib.Omega.{arith}
 use borrow.Author.Tests.{eqb-true, eqb-false, eq-eqb, ne-eqb}
 use lib.Dec.{eqb}
@@ -61,7 +62,8 @@ module _ (a p : List ℕ) (n m b : ℕ) (ha : number a n m < 2 ^ (8 * m)) (hp : 
   unfolding under
   under-same l e =
       rw (bits-back a n m b l, bits-back p n m b l, e)
-      (eqb-add (number p 0 n * 2 ^ (8 * m - (8 * (n + m) - b))) (number a n m / 2 ^ (8 * (n + m) - b)) (number p n m / 2 ^ (8 * (n + m) - b)))
+      (eqb-add (number p 0 n * 2 ^ (8 * m - (8 * (n + m) - b))) (number a n m / 2 ^ (8 * (n + m) - b))
+      (number p n m / 2 ^ (8 * (n + m) - b)))
 
   -- where they are not, the address does not lie under the prefix
   pub under-differ : 8 * n ≤ b → (number a 0 n ≡ number p 0 n → ⊥) → under (n + m) a p b ≡ false
@@ -72,7 +74,8 @@ module _ (a p : List ℕ) (n m b : ℕ) (ha : number a n m < 2 ^ (8 * m)) (hp : 
       let la : number a n m / 2 ^ k < 2 ^ (8 * m - k) = shr-lt (8 * m - k) k (rw (← f) ha) in
       let lp : number p n m / 2 ^ k < 2 ^ (8 * m - k) = shr-lt (8 * m - k) k (rw (← f) hp) in
       rw (bits-back a n m b l, bits-back p n m b l)
-      (ne-eqb _ _ (λ q. d (sym (high (number a 0 n) (8 * m - k) la) ∙ ap (λ (x : ℕ). x / 2 ^ (8 * m - k)) q ∙ high (number p 0 n) (8 * m - k) lp)))
+      (ne-eqb _ _ (λ q. d (sym (high (number a 0 n) (8 * m - k) la) ∙ ap (λ (x : ℕ). x / 2 ^ (8 * m - k)) q
+      ∙ high (number p 0 n) (8 * m - k) lp)))
 
 -- a word whose last k bits are 0 is what two shifts make of it
 pub shifted : (x k : ℕ) → x < 2 ^ 64 → eqb ((x / 2 ^ k * 2 ^ k) % 2 ^ 64) x ≡ eqb (x % 2 ^ k) 0
@@ -118,7 +121,8 @@ module _ (p : List ℕ) (n m b : ℕ) (hp : number p n m < 2 ^ (8 * m)) where
 -- a shift to the left drops the first bits of a word: the others are left where they are all 0 together
 pub dropped : (x a b : ℕ) → b + a ≡ 64 → eqb (x * 2 ^ a % 2 ^ 64) 0 ≡ eqb (x % 2 ^ b) 0
 dropped x a b e =
-    let l : x * 2 ^ a % 2 ^ (b + a) ≡ x % 2 ^ b * 2 ^ a = rw (mod-pow-add (x * 2 ^ a) b a, shl-shr x a, mul-mod-left x (2 ^ a)) (add-zero (x % 2 ^ b * 2 ^ a)) in
+    let l : x * 2 ^ a % 2 ^ (b + a) ≡ x % 2 ^ b * 2 ^ a =
+    rw (mod-pow-add (x * 2 ^ a) b a, shl-shr x a, mul-mod-left x (2 ^ a)) (add-zero (x % 2 ^ b * 2 ^ a)) in
     ap (λ (k : ℕ). eqb (x * 2 ^ a % 2 ^ k) 0) (sym e)
     ∙ rw l (eqb-iff (x % 2 ^ b * 2 ^ a) 0 (x % 2 ^ b) 0 (λ q. zero-of (x % 2 ^ b) a q) (λ q. rw q (zero-mul (2 ^ a))))
 

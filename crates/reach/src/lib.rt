@@ -9,9 +9,9 @@ ghost use Rattle.rules.specs.Prefix.{under};
 ghost use Rattle.rules.specs.Match.{entryMatches, matchEntry};
 ghost use Rattle.args.specs.Value.{value};
 ghost use Rattle.reach.specs.Reach.{ownArgs, smaller, reaches6, reaches4, entryReached6, entryReached4, reach6, reach4};
+use records::entry;
+use records::rule;
 use rules::Found;
-use table::entry;
-use table::rule;
 
 // The Args that stand in a prefix, as a container in that direction would bring them.
 fn own_args(direction: u8, prefix: [u8; 16], start: u8) -> args::Args
@@ -87,7 +87,7 @@ fn entry_reached6(table: &[u8], direction: u8, sid: [u8; 16], start: u8, k: usiz
     requires { ⌜ (16 + 64 * (k + 1) ≤ length (now table)) × (start ≤ 88) ⌝ }
     ensures { λ r. ⌜ r ≡ entryReached6 (now (table .entry)) direction sid start k ⌝ }
 {
-    let e = table::entry_at(table, k);
+    let e = records::entry_at(table, k);
     reaches6(
         direction,
         sid,
@@ -101,7 +101,7 @@ fn entry_reached4(table: &[u8], r: &[u8], k: usize) -> bool
     requires { ⌜ (16 + 64 * (k + 1) ≤ length (now table)) × (length (now r) ≡ 160) × (Rule.p (now r) ≤ 7) ⌝ }
     ensures { λ b. ⌜ b ≡ entryReached4 (now (table .entry)) (now (r .entry)) k ⌝ }
 {
-    let e = table::entry_at(table, k);
+    let e = records::entry_at(table, k);
     reaches4(
         r,
         octets::window16(e, entry::PREFIX),
@@ -113,7 +113,7 @@ fn entry_matched(table: &[u8], sid: [u8; 16], k: usize) -> bool
     requires { ⌜ 16 + 64 * (k + 1) ≤ length (now table) ⌝ }
     ensures { λ r. ⌜ r ≡ entryMatches (now (table .entry)) sid k ⌝ }
 {
-    let e = table::entry_at(table, k);
+    let e = records::entry_at(table, k);
     lies_under(
         sid,
         octets::window16(e, entry::PREFIX),
@@ -126,12 +126,12 @@ pub fn find(table: &[u8], sid: [u8; 16]) -> Found
     requires { ⌜ rulesAt (now table) ≤ length (now table) ⌝ }
     ensures { λ r. ⌜ r ≡ matchEntry (now (table .entry)) sid ⌝ }
 {
-    let count = table::entries(table);
+    let count = records::entries(table);
     let mut found = Found::Nothing;
     let mut i = 0;
     while i < count {
         if entry_matched(table, sid, i) {
-            found = table::longer_entry(table, found, i);
+            found = matching::longer_entry(table, found, i);
         }
         i += 1;
     }
@@ -143,12 +143,12 @@ pub fn reach6(table: &[u8], direction: u8, sid: [u8; 16], start: u8) -> Found
     requires { ⌜ (rulesAt (now table) ≤ length (now table)) × (start ≤ 88) ⌝ }
     ensures { λ r. ⌜ r ≡ reach6 (now (table .entry)) direction sid start ⌝ }
 {
-    let count = table::entries(table);
+    let count = records::entries(table);
     let mut found = Found::Nothing;
     let mut i = 0;
     while i < count {
         if entry_reached6(table, direction, sid, start, i) {
-            found = table::longer_entry(table, found, i);
+            found = matching::longer_entry(table, found, i);
         }
         i += 1;
     }
@@ -160,12 +160,12 @@ pub fn reach4(table: &[u8], r: &[u8]) -> Found
     requires { ⌜ (rulesAt (now table) ≤ length (now table)) × (length (now r) ≡ 160) × (Rule.p (now r) ≤ 7) ⌝ }
     ensures { λ f. ⌜ f ≡ reach4 (now (table .entry)) (now (r .entry)) ⌝ }
 {
-    let count = table::entries(table);
+    let count = records::entries(table);
     let mut found = Found::Nothing;
     let mut i = 0;
     while i < count {
         if entry_reached4(table, r, i) {
-            found = table::longer_entry(table, found, i);
+            found = matching::longer_entry(table, found, i);
         }
         i += 1;
     }

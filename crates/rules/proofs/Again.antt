@@ -32,7 +32,8 @@ module _ (s s′ : Stop) (h : Same s s′) where
 pub same-waypoints : (ss ss′ : List Stop) (ds : List (List ℕ)) → EachSame ss ss′ → AtWaypoints ss ds → AtWaypoints ss′ ds
 same-waypoints [] [] ds h a = a
 same-waypoints (s ∷ ss) (s′ ∷ ss′) [] h a = absurd a
-same-waypoints (s ∷ ss) (s′ ∷ ss′) (d ∷ ds) h a = ((a .0 .0, same-entry s s′ (h .0) d _ (a .0 .0) (a .0 .1)), same-waypoints ss ss′ ds (h .1) (a .1))
+same-waypoints (s ∷ ss) (s′ ∷ ss′) (d ∷ ds) h a =
+    ((a .0 .0, same-entry s s′ (h .0) d _ (a .0 .0) (a .0 .1)), same-waypoints ss ss′ ds (h .1) (a .1))
 same-waypoints [] (s′ ∷ ss′) ds h a = absurd h
 same-waypoints (s ∷ ss) [] ds h a = absurd h
 

@@ -59,7 +59,8 @@ module _ (tos total ttl : ℕ) (s d rest : List ℕ) (ht : tos < 256) (hn : tota
   unfolding wordSum
   front-sum k hk =
       let front = ipv4Front tos total ttl (put16 k []) in
-      onesSum-fold (front ++ (s ++ d)) (octets-append front (s ++ d) (octets-each front (omega arith)) (octets-append s d os od)) ∙ omega arith
+      onesSum-fold (front ++ (s ++ d)) (octets-append front (s ++ d) (octets-each front (omega arith)) (octets-append s d os od))
+      ∙ omega arith
 
   -- ones' complement sum of the header, the checksum included
   pub ipv4-sum : Ipv4.headerSum (ipv4 tos total ttl s d rest) ≡ 0xffff

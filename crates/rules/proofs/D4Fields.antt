@@ -23,7 +23,8 @@ use Rattle.rules.proofs.FarE6.{Valid}
 use Rattle.rules.proofs.FarE4.{behind-length, sid-length, source-length, sid-address, sid-args, source-address}
 use Rattle.rules.proofs.Paths.{addressesAt-length}
 use Rattle.rules.proofs.Fields.{ipv6-fields}
-use Rattle.rules.proofs.PathFields.{session-header, path-length, path-addresses, path-at, path-sid, Along, along, withArgs-other, withArgs-unused}
+use Rattle.rules.proofs.PathFields.{session-header, path-length, path-addresses, path-at, path-sid, Along, along, withArgs-other}
+use Rattle.rules.proofs.PathFields.{withArgs-unused}
 
 -- THE ADDRESSES
 
@@ -70,11 +71,13 @@ module _ (r : List ℕ) (c : Carried) (v : Valid 4 c) (hs : length (c .source) �
       let e : start / 8 ≡ Rule.p r + 4 = omega arith in
       let lb = behind-length (Rule.sidPrefix r) (Rule.p r) (c .destination) h h12 (v .to) in
       record {
-        prefix = withArgs-before base start (c .args) lb hb (v .args) 0 (Rule.p r) (omega arith) ∙ behind-prefix (Rule.sidPrefix r) (Rule.p r) (c .destination) h h12 (v .to);
+        prefix = withArgs-before base start (c .args) lb hb (v .args) 0 (Rule.p r) (omega arith)
+            ∙ behind-prefix (Rule.sidPrefix r) (Rule.p r) (c .destination) h h12 (v .to);
         destination = sid-address r c v hs hp hq;
         carries = sid-args r c v hs hp hq;
         unused = ap (λ (i : ℕ). octet (withArgs base start (c .args)) i % 2) (sym e) ∙ withArgs-unused base start (c .args) lb hb (v .args);
-        padding = λ i l. withArgs-other base start (c .args) lb hb (v .args) i (λ m. omega arith) ∙ behind-zeros (Rule.sidPrefix r) (Rule.p r) (c .destination) h h12 (v .to) i (omega arith);
+        padding = λ i l. withArgs-other base start (c .args) lb hb (v .args) i (λ m. omega arith)
+            ∙ behind-zeros (Rule.sidPrefix r) (Rule.p r) (c .destination) h h12 (v .to) i (omega arith);
       }
 
 -- WITH WAYPOINTS OR WITHOUT
@@ -89,7 +92,8 @@ past-none : (class upper hop : ℕ) (source : List ℕ) (ws : List (List ℕ)) (
 past-none class upper hop source [] sid inner h = refl
 past-none class upper hop source (w ∷ ws) sid inner h = absurd (omega arith)
 
-pub d4-written : (r : List ℕ) (c : Carried) → Valid 4 c → length (c .source) ≡ 4 → Rule.p r ≤ 7 → Rule.q r ≤ 12 → WrittenD4 r c (d4Packet r c)
+pub d4-written : (r : List ℕ) (c : Carried) → Valid 4 c → length (c .source) ≡ 4 → Rule.p r ≤ 7 → Rule.q r ≤ 12
+    → WrittenD4 r c (d4Packet r c)
 unfolding d4Packet
 d4-written r c v hs hp hq =
     let class = c .trafficClass in
@@ -107,9 +111,12 @@ d4-written r c v hs hp hq =
     record {
       past = λ h.
           let a : Along (srv6 class upper hop from (ws ++ sid ∷ []) (c .inner)) class upper hop from (ws ++ sid ∷ []) (c .inner) (n + 1) n =
-          along class upper hop from (ws ++ sid ∷ []) (c .inner) (n + 1) n (v .octet) lf (path-addresses r 48 n sid [] lx tt) (path-length r 48 n sid [] ∙ omega arith) refl in
+          along class upper hop from (ws ++ sid ∷ []) (c .inner) (n + 1) n (v .octet) lf (path-addresses r 48 n sid [] lx tt)
+          (path-length r 48 n sid [] ∙ omega arith) refl in
           let z : 0 ≡ n - n = omega arith in
-          let x : Srh.segment (srv6 class upper hop from (ws ++ sid ∷ []) (c .inner)) 0 ≡ sid = ap (Srh.segment (srv6 class upper hop from (ws ++ sid ∷ []) (c .inner))) z ∙ a .segment n (omega arith) ∙ path-sid r 48 n sid [] in
+          let x : Srh.segment (srv6 class upper hop from (ws ++ sid ∷ []) (c .inner)) 0 ≡ sid =
+          ap (Srh.segment (srv6 class upper hop from (ws ++ sid ∷ []) (c .inner))) z ∙ a .segment n (omega arith)
+          ∙ path-sid r 48 n sid [] in
           rw (past-some class upper hop from ws sid (c .inner) (rw ln h))
           (record {
             ipv6 = a .ipv6;

@@ -49,11 +49,13 @@ d-delivers near ss p i m =
     let tail = sid ∷ [] in
     let upper = innerProtocol (Entry.session e) (c .inner) in
     let hop = Entry.hopLimit e - length ss in
-    let hx : length sid ≡ 16 = withArgs-length (Policy.lastSid y) (Policy.start y) (c .args) (window-length y _ 16) (good .policy .start) (v .args) in
+    let hx : length sid ≡ 16 = withArgs-length (Policy.lastSid y) (Policy.start y) (c .args) (window-length y _ 16) (good .policy .start)
+    (v .args) in
     let hw : Addresses ws = addressesAt-addresses y 16 _ in
     let fits : srv6Payload (ws ++ tail) (c .inner) ≤ 65535 = omega (read, n .last) in
     let hs = window-length e 32 16 in
-    let w = way-end (c .trafficClass) upper (Entry.hopLimit e) (Entry.source e) ws tail (c .inner) (Entry.session e) (v .octet) k hs hw (hx, tt) (omega arith) fits hop in
+    let w = way-end (c .trafficClass) upper (Entry.hopLimit e) (Entry.source e) ws tail (c .inner) (Entry.session e) (v .octet) k hs hw
+    (hx, tt) (omega arith) fits hop in
     let r = srh upper (length tail - 1) (ws ++ tail) (c .inner) in
     let q = onTheWay (c .trafficClass) upper hop (Entry.source e) (ws ++ tail) tail (c .inner) in
     let d : Ipv6.destination q ≡ sid = way-destination (c .trafficClass) upper hop (Entry.source e) (ws ++ tail) tail (c .inner) w in
@@ -66,7 +68,9 @@ d-delivers near ss p i m =
           hs hw (hx, tt) (omega arith) fits ss (m .hopLimit) (m .passes) (m .room));
       destination = d;
       segmentsLeft = ipv6-octet (c .trafficClass) (srv6Payload (ws ++ tail) (c .inner)) routingHeader hop (Entry.source e) sid r hs hx 3;
-      args = ap (λ (l : List ℕ). argsAt l (Policy.start y)) d ∙ withArgs-back (Policy.lastSid y) (Policy.start y) (c .args) (window-length y _ 16) (good .policy .start) (v .args);
-      trafficClass = ipv6-trafficClass (c .trafficClass) (srv6Payload (ws ++ tail) (c .inner)) routingHeader hop (Entry.source e) sid r hs hx (v .octet);
+      args = ap (λ (l : List ℕ). argsAt l (Policy.start y)) d
+          ∙ withArgs-back (Policy.lastSid y) (Policy.start y) (c .args) (window-length y _ 16) (good .policy .start) (v .args);
+      trafficClass = ipv6-trafficClass (c .trafficClass) (srv6Payload (ws ++ tail) (c .inner)) routingHeader hop (Entry.source e) sid r hs
+          hx (v .octet);
       inner = way-inner (c .trafficClass) upper hop (Entry.source e) (ws ++ tail) tail (c .inner) w;
     }

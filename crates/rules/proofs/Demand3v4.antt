@@ -29,7 +29,8 @@ use Rattle.rules.proofs.Reading.{Addresses}
 use Rattle.rules.proofs.Waypoints.{onTheWay}
 use Rattle.rules.proofs.FarE6.{Valid}
 use Rattle.rules.proofs.FarE4.{Arrived, plain-arrived, way-arrived, sid-length, source-length, e4-length, e4-sends}
-use Rattle.rules.proofs.NearD4.{Passed, passed-quiet, passed-fits, carried4-valid, carried4-source, carried4-destination, call-passed, passed-call, back-destination, back-values, back-passed}
+use Rattle.rules.proofs.NearD4.{Passed, passed-quiet, passed-fits, carried4-valid, carried4-source, carried4-destination}
+use Rattle.rules.proofs.NearD4.{call-passed, passed-call, back-destination, back-values, back-passed}
 use Rattle.rules.proofs.Sessions.{Carries, carries}
 use Rattle.rules.proofs.Paths.{addressesAt-addresses, way-end, arrives}
 use Rattle.rules.proofs.Tables.{found-rule}
@@ -44,7 +45,8 @@ record Reaches (ss : List Stop) (o : List ℕ) (class upper : ℕ) (source sid i
   sent : trip ss o ≡ forwards ss o packet
   arrived : Arrived packet class upper source sid inner
 
-reaches : (class upper hop session : ℕ) (source : List ℕ) (ws : List (List ℕ)) (sid inner : List ℕ) (ss : List Stop) → class < 256 → Carries session upper
+reaches : (class upper hop session : ℕ) (source : List ℕ) (ws : List (List ℕ)) (sid inner : List ℕ) (ss : List Stop) → class < 256
+    → Carries session upper
     → length source ≡ 16 → length sid ≡ 16 → Addresses ws → pastWaypointsPayload ws inner ≤ 65535 → length ss < hop
     → AtWaypoints ss ws → EachHasRoom ss (length (pastWaypoints class upper hop source ws sid inner))
     → Reaches ss (pastWaypoints class upper hop source ws sid inner) class upper source sid inner
@@ -95,7 +97,8 @@ ready near ss far p k j m = record {
   room = m .room;
 }
 
-ready-again : (near : Stop) (ss : List Stop) (far : Stop) (address : List ℕ) (c : Carried) (k j : ℕ) (r f : List ℕ) → Ready near ss far address c k j r f
+ready-again : (near : Stop) (ss : List Stop) (far : Stop) (address : List ℕ) (c : Carried) (k j : ℕ) (r f : List ℕ)
+    → Ready near ss far address c k j r f
     → (near′ : Stop) (ss′ : List Stop) (far′ : Stop) → Again near ss far near′ ss′ far′ (length (d4Packet r c)) (length (e4Packet f c))
     → Ready near′ ss′ far′ address c k j r f
 ready-again near ss far address c k j r f h near′ ss′ far′ a = record {
@@ -112,10 +115,12 @@ ready-again near ss far address c k j r f h near′ ss′ far′ a = record {
   room = a .room;
 }
 
-module _ (near : Stop) (ss : List Stop) (far : Stop) (address : List ℕ) (c : Carried) (k j : ℕ) (r f : List ℕ) (h : Ready near ss far address c k j r f)
+module _ (near : Stop) (ss : List Stop) (far : Stop) (address : List ℕ) (c : Carried) (k j : ℕ) (r f : List ℕ)
+    (h : Ready near ss far address c k j r f)
     (v : Valid 4 c) (hs : length (c .source) ≡ 4) (fits : e4TotalLength (c .inner) ≤ 65535) where
   rule-sound : SoundRule r
-  rule-sound = subst (λ (r : List ℕ). SoundRule r) (h .rule) (found-rule entryLimit (near .table) address k (h .enters .sound) (h .enters .matches))
+  rule-sound = subst (λ (r : List ℕ). SoundRule r) (h .rule)
+      (found-rule entryLimit (near .table) address k (h .enters .sound) (h .enters .matches))
 
   -- a packet that carries the values, and that passes at the near gateway, goes all the way
   whole : (p : List ℕ) → Ipv4.destination p ≡ address → carried4 p ≡ c → Passed r p
@@ -125,15 +130,19 @@ module _ (near : Stop) (ss : List Stop) (far : Stop) (address : List ℕ) (c : C
       let last : None (d4Rows r (c .inner)) = rw hc at (n .last) in
       let upper = innerProtocol (Rule.session r) (c .inner) in
       let good = carries (Rule.session r) (c .inner) (rule-sound .session) in
-      let a = reaches (c .trafficClass) upper (Rule.hopLimit r) (Rule.session r) (d4Source r c) (Rule.waypoints r) (d4Sid r c) (c .inner) ss (v .octet) good
-      (source-length r c v hs (rule-sound .p) (rule-sound .q)) (sid-length r c v hs (rule-sound .p) (rule-sound .q)) (addressesAt-addresses r 48 _) (omega (read, last)) (h .hopLimit) (h .passes) (h .room .atWaypoints) in
+      let a = reaches (c .trafficClass) upper (Rule.hopLimit r) (Rule.session r) (d4Source r c) (Rule.waypoints r) (d4Sid r c) (c .inner) ss
+      (v .octet) good
+      (source-length r c v hs (rule-sound .p) (rule-sound .q)) (sid-length r c v hs (rule-sound .p) (rule-sound .q))
+      (addressesAt-addresses r 48 _) (omega (read, last)) (h .hopLimit) (h .passes) (h .room .atWaypoints) in
       let near-sends : call near p ≡ Sent (d4Packet r c) =
       passed-call near p address k (h .enters) hd r (h .rule) n (rw hc (h .room .atNear)) ∙ ap (λ (c : Carried). Sent (d4Packet r c)) hc in
       let far-sends : call far (a .packet) ≡ Sent (e4Packet f c) =
-      e4-sends f r upper c v hs (rule-sound .p) (rule-sound .q) (h .sameP) (h .sameQ) (a .packet) (a .arrived) far j (h .exit) (h .leaves) (h .room .atFar) (rw (h .session) (good .taken)) fits in
+      e4-sends f r upper c v hs (rule-sound .p) (rule-sound .q) (h .sameP) (h .sameQ) (a .packet) (a .arrived) far j (h .exit) (h .leaves)
+      (h .room .atFar) (rw (h .session) (good .taken)) fits in
       trip-whole near ss far p (d4Packet r c) (a .packet) (e4Packet f c) near-sends (a .sent) far-sends
 
-pub demand3-ipv4 : (near : Stop) (ss : List Stop) (far : Stop) (p : List ℕ) (k j : ℕ) → Matching4 near ss far p k j → Delivers4 near ss far p k j
+pub demand3-ipv4 : (near : Stop) (ss : List Stop) (far : Stop) (p : List ℕ) (k j : ℕ) → Matching4 near ss far p k j
+    → Delivers4 near ss far p k j
 unfolding entryAt
 demand3-ipv4 near ss far p k j m =
     let r = ruleAt (near .table) k in

@@ -70,7 +70,8 @@ ready near ss far p i j m = record {
   room = m .room;
 }
 
-ready-again : (near : Stop) (ss : List Stop) (far : Stop) (address : List ℕ) (c : Carried) (i j : ℕ) (e y f : List ℕ) → Ready near ss far address c i j e y f
+ready-again : (near : Stop) (ss : List Stop) (far : Stop) (address : List ℕ) (c : Carried) (i j : ℕ) (e y f : List ℕ)
+    → Ready near ss far address c i j e y f
     → (near′ : Stop) (ss′ : List Stop) (far′ : Stop) → Again near ss far near′ ss′ far′ (length (diPacket e y c)) (length (e6Packet f c))
     → Ready near′ ss′ far′ address c i j e y f
 ready-again near ss far address c i j e y f r near′ ss′ far′ a = record {
@@ -87,13 +88,15 @@ ready-again near ss far address c i j e y f r near′ ss′ far′ a = record {
   room = a .room;
 }
 
-module _ (near : Stop) (ss : List Stop) (far : Stop) (address : List ℕ) (c : Carried) (i j : ℕ) (e y f : List ℕ) (r : Ready near ss far address c i j e y f)
+module _ (near : Stop) (ss : List Stop) (far : Stop) (address : List ℕ) (c : Carried) (i j : ℕ) (e y f : List ℕ)
+    (r : Ready near ss far address c i j e y f)
     (v : Valid 16 c) (none : c .source ≡ []) where
   near-sound : SoundGtp6D (near .table) (entryAt (near .table) i)
   near-sound = found-di entryLimit (near .table) address i (r .enters .sound) (r .enters .matches) (r .enters .kind)
 
   near-carries : Carries (Entry.session e) (innerProtocol (Entry.session e) (c .inner))
-  near-carries = carries (Entry.session e) (c .inner) (subst (λ (e : List ℕ). sessionKnown (Entry.session e) ≡ true) (r .entry) (near-sound .session))
+  near-carries = carries (Entry.session e) (c .inner)
+      (subst (λ (e : List ℕ). sessionKnown (Entry.session e) ≡ true) (r .entry) (near-sound .session))
 
   start-fits : Policy.start y ≤ 88
   start-fits = subst (λ (y : List ℕ). Policy.start y ≤ 88) (r .policy) (near-sound .policy .start)
@@ -118,13 +121,15 @@ module _ (near : Stop) (ss : List Stop) (far : Stop) (address : List ℕ) (c : C
       let hw : Addresses ws = addressesAt-addresses y 16 _ in
       let fits : srv6Payload (ws ++ tail) (c .inner) ≤ 65535 = omega (read, n) in
       let hs = window-length e 32 16 in
-      let w = way-end (c .trafficClass) upper (Entry.hopLimit e) (Entry.source e) ws tail (c .inner) (Entry.session e) (v .octet) near-carries hs hw ht (omega arith) fits hop in
+      let w = way-end (c .trafficClass) upper (Entry.hopLimit e) (Entry.source e) ws tail (c .inner) (Entry.session e) (v .octet)
+      near-carries hs hw ht (omega arith) fits hop in
       let g : ws ++ tail ≡ (ws ++ x ∷ []) ++ c .destination ∷ [] = sym (append-assoc ws (x ∷ []) (c .destination ∷ [])) in (
         arrives (c .trafficClass) upper (Entry.hopLimit e) (Entry.source e) ws tail (c .inner) (Entry.session e) (v .octet) near-carries
             hs hw ht (omega arith) fits ss (r .hopLimit) (r .passes) (r .room .atWaypoints)
             ∙ rw q,
         rw g
-            (e6-sends f upper hop (Entry.source e) (ws ++ x ∷ []) (Policy.lastSid y) (Policy.start y) c (window-length y _ 16) (r .start) start-fits none v (rw g at w) far j (r .exit) (r .leaves) (r .room .atFar)
+            (e6-sends f upper hop (Entry.source e) (ws ++ x ∷ []) (Policy.lastSid y) (Policy.start y) c (window-length y _ 16) (r .start)
+            start-fits none v (rw g at w) far j (r .exit) (r .leaves) (r .room .atFar)
             (rw (r .session) (near-carries .taken))),
       )
 
@@ -143,7 +148,8 @@ module _ (near : Stop) (ss : List Stop) (far : Stop) (address : List ℕ) (c : C
       (r .room .atNear) in
       trip-whole near ss far p _ _ _ h (o .0) (o .1)
 
-pub demand3-ipv6 : (near : Stop) (ss : List Stop) (far : Stop) (p : List ℕ) (i j : ℕ) → Matching6 near ss far p i j → Delivers6 near ss far p i j
+pub demand3-ipv6 : (near : Stop) (ss : List Stop) (far : Stop) (p : List ℕ) (i j : ℕ) → Matching6 near ss far p i j
+    → Delivers6 near ss far p i j
 unfolding atDi
 demand3-ipv6 near ss far p i j m =
     let e = entryAt (near .table) i in
@@ -155,7 +161,8 @@ demand3-ipv6 near ss far p i j m =
     let none = carried6-source p in
     let (front, k) = sent-entry near p (Ipv6.destination p) (m .sent .0) endMGtp6DDi i (m .enters) refl (m .sent .1) in
     let (n, _) = sent-passed e (diPath y c) (diPacket e y c) p (m .sent .0) front (sym (at-di (near .table) e p (m .enters .kind)) ∙ k) in
-    let quiet : cond (eqb (Entry.direction f) downlink) 0 (c .args .reflective) ≡ 0 = rw (m .direction) (passed-quiet e (diPath y c) (diPacket e y c) p n) in
+    let quiet : cond (eqb (Entry.direction f) downlink) 0 (c .args .reflective) ≡ 0 =
+    rw (m .direction) (passed-quiet e (diPath y c) (diPacket e y c) p n) in
     let back = back-values f c v none quiet in
     let there = back-destination f c v none ∙ carried6-destination p in
     let n′ = back-passed f c v none e (diPath y c) (m .direction) quiet (n .last) in

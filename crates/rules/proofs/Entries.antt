@@ -62,7 +62,8 @@ module _ (s : Stop) (p d x : List ℕ) (b i : ℕ) (a : AtEntry s d b i) (hd : I
   found-at = rw hd (a .matches)
 
   -- where the entry decides to send, and there is room, the call sends
-  pub entry-sends : Clear (malformed (header p)) → atEntry (s .table) (entryAt (s .table) i) p ≡ Sent x → length x ≤ length (s .buffer) → call s p ≡ Sent x
+  pub entry-sends : Clear (malformed (header p)) → atEntry (s .table) (entryAt (s .table) i) p ≡ Sent x → length x ≤ length (s .buffer)
+      → call s p ≡ Sent x
   entry-sends hm he hr =
       let room = length (s .buffer) in
       call-v6 s p (a .call)

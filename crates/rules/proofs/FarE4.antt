@@ -48,7 +48,8 @@ pub record Arrived (p : List ℕ) (class upper : ℕ) (source sid inner : List �
   pub rest : drop (header p .upperAt) p ≡ inner
 
 -- with no SRH
-pub plain-arrived : (class upper hop session : ℕ) (source sid inner : List ℕ) → class < 256 → Carries session upper → length source ≡ 16 → length sid ≡ 16
+pub plain-arrived : (class upper hop session : ℕ) (source sid inner : List ℕ) → class < 256 → Carries session upper → length source ≡ 16
+    → length sid ≡ 16
     → Arrived (ipv6 class (length inner) upper hop source sid inner) class upper source sid inner
 plain-arrived class upper hop session source sid inner hc k hs hd =
     let h = ipv6-header class (length inner) upper hop source sid inner hs hd hc in
@@ -65,7 +66,8 @@ plain-arrived class upper hop session source sid inner hc k hs hd =
     }
 
 -- with an SRH, at its last segment
-pub way-arrived : (class upper hop : ℕ) (source : List ℕ) (held : List (List ℕ)) (sid inner : List ℕ) → Way class upper hop source held (sid ∷ []) inner
+pub way-arrived : (class upper hop : ℕ) (source : List ℕ) (held : List (List ℕ)) (sid inner : List ℕ)
+    → Way class upper hop source held (sid ∷ []) inner
     → Arrived (onTheWay class upper hop source held (sid ∷ []) inner) class upper source sid inner
 way-arrived class upper hop source held sid inner w =
     let h = way-header class upper hop source held (sid ∷ []) inner w in
@@ -113,7 +115,8 @@ module _ (r : List ℕ) (c : Carried) (v : Valid 4 c) (hs : length (c .source) �
   pub sid-address : window (d4Sid r c) (Rule.p r) 4 ≡ c .destination
   unfolding d4Sid
   sid-address =
-      withArgs-before (addressBehind (Rule.sidPrefix r) (Rule.p r) (c .destination)) (startBehind (Rule.p r)) (c .args) base-length (omega arith) (v .args) (Rule.p r) 4 (omega arith)
+      withArgs-before (addressBehind (Rule.sidPrefix r) (Rule.p r) (c .destination)) (startBehind (Rule.p r)) (c .args) base-length
+      (omega arith) (v .args) (Rule.p r) 4 (omega arith)
       ∙ behind-back (Rule.sidPrefix r) (Rule.p r) (c .destination) (window-length r 16 16) (omega arith) (v .to)
 
   pub sid-args : argsAt (d4Sid r c) (startBehind (Rule.p r)) ≡ c .args

@@ -33,7 +33,8 @@ pub record Valid (n : ℕ) (c : Carried) : Type 0 where
   pub to : length (c .destination) ≡ n
   pub args : Fits (c .args)
 
-pub datagram-length : (port direction : ℕ) (x : Args) (inner : List ℕ) → Fits x → length (datagramOctets port direction x inner) ≡ 24 + length inner
+pub datagram-length : (port direction : ℕ) (x : Args) (inner : List ℕ) → Fits x
+    → length (datagramOctets port direction x inner) ≡ 24 + length inner
 datagram-length port direction x inner f = simp length-append (omega (arith, f .tunnel))
 
 pub e6-length : (e : List ℕ) (c : Carried) → Valid 16 c → length (e6Packet e c) ≡ 64 + length (c .inner)
@@ -45,8 +46,10 @@ e6-length e c v =
 
 module _ (e : List ℕ) (upper hop : ℕ) (source : List ℕ) (pre : List (List ℕ)) (sid : List ℕ) (start : ℕ) (c : Carried)
     (hs : length sid ≡ 16) (he : Entry.start e ≡ start) (hb : start ≤ 88) (none : c .source ≡ []) (v : Valid 16 c)
-    (w : Way (c .trafficClass) upper hop source (pre ++ c .destination ∷ []) (withArgs sid start (c .args) ∷ c .destination ∷ []) (c .inner)) where
-  pub e6-reads : e6Carried e (onTheWay (c .trafficClass) upper hop source (pre ++ c .destination ∷ []) (withArgs sid start (c .args) ∷ c .destination ∷ []) (c .inner)) ≡ c
+    (w : Way (c .trafficClass) upper hop source (pre ++ c .destination ∷ []) (withArgs sid start (c .args) ∷ c .destination ∷ [])
+    (c .inner)) where
+  pub e6-reads : e6Carried e (onTheWay (c .trafficClass) upper hop source (pre ++ c .destination ∷ [])
+      (withArgs sid start (c .args) ∷ c .destination ∷ []) (c .inner)) ≡ c
   unfolding e6Carried
   e6-reads =
       let held = pre ++ c .destination ∷ [] in
@@ -63,13 +66,16 @@ module _ (e : List ℕ) (upper hop : ℕ) (source : List ℕ) (pre : List (List 
         trafficClass = ipv6-trafficClass (c .trafficClass) n routingHeader hop source x r (w .from) hx (v .octet) k;
         source = sym none k;
         destination = g k;
-        args = (ap (λ (l : List ℕ). argsAt l (Entry.start e)) (way-destination (c .trafficClass) upper hop source held path (c .inner) w) ∙ ap (λ (n : ℕ). argsAt x n) he ∙ withArgs-back sid start (c .args) hs hb (v .args)) k;
+        args =
+            (ap (λ (l : List ℕ). argsAt l (Entry.start e)) (way-destination (c .trafficClass) upper hop source held path (c .inner) w)
+            ∙ ap (λ (n : ℕ). argsAt x n) he ∙ withArgs-back sid start (c .args) hs hb (v .args)) k;
         inner = way-inner (c .trafficClass) upper hop source held path (c .inner) w k;
       }
 
   pub e6-sends : (s : Stop) (j : ℕ) → entryAt (s .table) j ≡ e → AtEntry s (withArgs sid start (c .args)) endMGtp6E j
       → HasRoom s (length (e6Packet e c)) → accepts (Entry.session e) upper ≡ true
-      → call s (onTheWay (c .trafficClass) upper hop source (pre ++ c .destination ∷ []) (withArgs sid start (c .args) ∷ c .destination ∷ []) (c .inner)) ≡ Sent (e6Packet e c)
+      → call s (onTheWay (c .trafficClass) upper hop source (pre ++ c .destination ∷ [])
+      (withArgs sid start (c .args) ∷ c .destination ∷ []) (c .inner)) ≡ Sent (e6Packet e c)
   unfolding atE6 rowsE6 e6Rows
   e6-sends s j hj a room ha =
       let held = pre ++ c .destination ∷ [] in
@@ -77,7 +83,8 @@ module _ (e : List ℕ) (upper hop : ℕ) (source : List ℕ) (pre : List (List 
       let path = x ∷ c .destination ∷ [] in
       let p = onTheWay (c .trafficClass) upper hop source held path (c .inner) in
       let h : 1 ≤ length held = rw (length-append pre (c .destination ∷ [])) (omega arith) in
-      let n : None (e6Rows e (header p)) = rw (way-header (c .trafficClass) upper hop source held path (c .inner) w, ha) (omega (clear, w .not0, w .not43)) in
+      let n : None (e6Rows e (header p)) = rw (way-header (c .trafficClass) upper hop source held path (c .inner) w, ha)
+      (omega (clear, w .not0, w .not43)) in
       let last = lengthRow (e6Payload (e6Carried e p .inner)) ∷ [] in
       let m : None last = rw e6-reads (omega (clear, w .fits)) in
       entry-sends s p x (e6Packet e c) endMGtp6E j a (way-destination (c .trafficClass) upper hop source held path (c .inner) w)

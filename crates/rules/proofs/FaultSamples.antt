@@ -34,7 +34,8 @@ pub faults : T (every
     ∷ eqb (fault (header 1 0 0 (entry 2 129 (network 0xa)))) (1 + 256 * 2)
     ∷ eqb (fault (header 2 0 0 (entry endMGtp6D 48 (network 0xa) ++ entry 2 48 (network 0xb)))) (7 + 256 * 2)
     ∷ eqb (fault (header 0 2 1 (rule [] ++ (rule [] ++ policy [])))) (12 + 256 * 3 + 65536 * 1)
-    ∷ eqb (fault (header 3 0 0 (entry end 48 (network 0xa) ++ (entry end 48 (network 0xa) ++ entry 2 48 (network 0xb))))) (1 + 256 * 2 + 65536 * 2)
+    ∷ eqb (fault (header 3 0 0 (entry end 48 (network 0xa) ++ (entry end 48 (network 0xa) ++ entry 2 48 (network 0xb)))))
+    (1 + 256 * 2 + 65536 * 2)
     ∷ []))
 unfolding window number splice clear entryAt ruleAt policyAt all sameEntryPrefix sameRulePrefix told orElse firstFault
     entryBroken ruleBroken policyBroken faultWithin

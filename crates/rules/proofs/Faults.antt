@@ -8,8 +8,12 @@ use lib.Dec.{eqb}
 use lib.ListN.{length}
 use borrow.Author.Tests.{eqb-true, eq-eqb, ne-eqb}
 use Rattle.rules.specs.Table.{entries, rules, policies, entryAt, ruleAt, policyAt}
-use Rattle.rules.specs.Sound.{every, all, fresh, headerConditions, entryConditions, ruleConditions, policyConditions, headerSound, entrySound, ruleSound, policySound, sameEntryPrefix, sameRulePrefix, distinct, soundWithin, sound, entryLimit}
-use Rattle.rules.specs.Fault.{firstBroken, told, orElse, firstFault, headerRecord, entryRecord, ruleRecord, policyRecord, headerBroken, entryBroken, ruleBroken, policyBroken, entryRepeated, ruleRepeated, headerFault, entriesFault, entryPrefixesFault, rulesFault, rulePrefixesFault, policiesFault, faultWithin, fault}
+use Rattle.rules.specs.Sound.{every, all, fresh, headerConditions, entryConditions, ruleConditions, policyConditions, headerSound}
+use Rattle.rules.specs.Sound.{entrySound, ruleSound, policySound, sameEntryPrefix, sameRulePrefix, distinct, soundWithin, sound}
+use Rattle.rules.specs.Sound.{entryLimit}
+use Rattle.rules.specs.Fault.{firstBroken, told, orElse, firstFault, headerRecord, entryRecord, ruleRecord, policyRecord}
+use Rattle.rules.specs.Fault.{headerBroken, entryBroken, ruleBroken, policyBroken, entryRepeated, ruleRepeated, headerFault}
+use Rattle.rules.specs.Fault.{entriesFault, entryPrefixesFault, rulesFault, rulePrefixesFault, policiesFault, faultWithin, fault}
 
 -- NO FAULT, FOR EACH FORM OF A FAULT
 
@@ -29,7 +33,8 @@ unfolding orElse
 none-else zero g = refl
 none-else (suc f) g = rw (ne-eqb (suc f) 0 (λ e. omega arith)) (ne-eqb (suc f) 0 (λ e. omega arith))
 
-pub none-first : (faultOf : ℕ → ℕ) (holds : ℕ → Bool) → ((i : ℕ) → eqb (faultOf i) 0 ≡ holds i) → (n : ℕ) → eqb (firstFault faultOf n) 0 ≡ all holds n
+pub none-first : (faultOf : ℕ → ℕ) (holds : ℕ → Bool) → ((i : ℕ) → eqb (faultOf i) 0 ≡ holds i) → (n : ℕ)
+    → eqb (firstFault faultOf n) 0 ≡ all holds n
 unfolding firstFault all
 none-first faultOf holds h zero = refl
 none-first faultOf holds h (suc n) = none-else (firstFault faultOf n) (faultOf n) ∙ rw (none-first faultOf holds h n, h n) refl
@@ -42,23 +47,32 @@ header-none limit t = none-told headerRecord 0 (headerBroken limit t) ∙ none-b
 
 entries-none : (t : List ℕ) → eqb (entriesFault t) 0 ≡ all (λ i. entrySound (policies t) (entryAt t i)) (entries t)
 unfolding entryBroken entrySound
-entries-none t = none-first _ _ (λ i. none-told entryRecord i (entryBroken (policies t) (entryAt t i)) ∙ none-broken 0 (entryConditions (policies t) (entryAt t i))) (entries t)
+entries-none t =
+    none-first _ _ (λ i. none-told entryRecord i (entryBroken (policies t) (entryAt t i))
+    ∙ none-broken 0 (entryConditions (policies t) (entryAt t i))) (entries t)
 
-pub entry-prefixes-none : (t : List ℕ) (n : ℕ) → eqb (firstFault (λ j. told entryRecord j (entryRepeated t j)) n) 0 ≡ distinct (sameEntryPrefix t) n
+pub entry-prefixes-none : (t : List ℕ) (n : ℕ)
+    → eqb (firstFault (λ j. told entryRecord j (entryRepeated t j)) n) 0 ≡ distinct (sameEntryPrefix t) n
 unfolding distinct
-entry-prefixes-none t n = none-first _ _ (λ j. none-told entryRecord j (entryRepeated t j) ∙ none-broken 13 (fresh (sameEntryPrefix t) j ∷ []) ∙ and-true _) n
+entry-prefixes-none t n =
+    none-first _ _ (λ j. none-told entryRecord j (entryRepeated t j) ∙ none-broken 13 (fresh (sameEntryPrefix t) j ∷ []) ∙ and-true _) n
 
 rules-none : (t : List ℕ) → eqb (rulesFault t) 0 ≡ all (λ k. ruleSound (ruleAt t k)) (rules t)
 unfolding ruleBroken ruleSound
-rules-none t = none-first _ _ (λ k. none-told ruleRecord k (ruleBroken (ruleAt t k)) ∙ none-broken 0 (ruleConditions (ruleAt t k))) (rules t)
+rules-none t = none-first _ _ (λ k. none-told ruleRecord k (ruleBroken (ruleAt t k)) ∙ none-broken 0 (ruleConditions (ruleAt t k)))
+    (rules t)
 
 pub rule-prefixes-none : (t : List ℕ) → eqb (rulePrefixesFault t) 0 ≡ distinct (sameRulePrefix t) (rules t)
 unfolding distinct
-rule-prefixes-none t = none-first _ _ (λ j. none-told ruleRecord j (ruleRepeated t j) ∙ none-broken 11 (fresh (sameRulePrefix t) j ∷ []) ∙ and-true _) (rules t)
+rule-prefixes-none t =
+    none-first _ _ (λ j. none-told ruleRecord j (ruleRepeated t j) ∙ none-broken 11 (fresh (sameRulePrefix t) j ∷ []) ∙ and-true _)
+    (rules t)
 
 policies-none : (t : List ℕ) → eqb (policiesFault t) 0 ≡ all (λ j. policySound (policyAt t j)) (policies t)
 unfolding policyBroken policySound
-policies-none t = none-first _ _ (λ j. none-told policyRecord j (policyBroken (policyAt t j)) ∙ none-broken 0 (policyConditions (policyAt t j))) (policies t)
+policies-none t =
+    none-first _ _ (λ j. none-told policyRecord j (policyBroken (policyAt t j)) ∙ none-broken 0 (policyConditions (policyAt t j)))
+    (policies t)
 
 -- THE TABLE
 
@@ -111,14 +125,19 @@ module _ (P : ℕ → Type 0) where
   first-one : (faultOf : ℕ → ℕ) (n : ℕ) → P 0 → ((i : ℕ) → i < n → P (faultOf i)) → P (firstFault faultOf n)
   unfolding firstFault
   first-one faultOf zero z h = z
-  first-one faultOf (suc n) z h = else-one (firstFault faultOf n) (faultOf n) (first-one faultOf n z (λ i l. h i (omega arith))) (h n (omega arith))
+  first-one faultOf (suc n) z h = else-one (firstFault faultOf n) (faultOf n) (first-one faultOf n z (λ i l. h i (omega arith)))
+      (h n (omega arith))
 
 pub fault-named : (limit : ℕ) (t : List ℕ) → Named t (faultWithin limit t)
 unfolding faultWithin entryBroken ruleBroken policyBroken
 fault-named limit t =
     else-one (Named t) (headerFault limit t) _ (atHeader _ (broken-most 0 (headerConditions limit t)))
-    (else-one (Named t) (entriesFault t) _ (first-one (Named t) _ _ none (λ i l. atEntry i _ l (omega (arith, broken-most 0 (entryConditions (policies t) (entryAt t i))))))
-    (else-one (Named t) (entryPrefixesFault t) _ (first-one (Named t) _ _ none (λ j l. atEntry j _ l (broken-most 13 (fresh (sameEntryPrefix t) j ∷ []))))
-    (else-one (Named t) (rulesFault t) _ (first-one (Named t) _ _ none (λ k l. atRule k _ l (omega (arith, broken-most 0 (ruleConditions (ruleAt t k))))))
-    (else-one (Named t) (rulePrefixesFault t) _ (first-one (Named t) _ _ none (λ j l. atRule j _ l (broken-most 11 (fresh (sameRulePrefix t) j ∷ []))))
+    (else-one (Named t) (entriesFault t) _ (first-one (Named t) _ _ none
+    (λ i l. atEntry i _ l (omega (arith, broken-most 0 (entryConditions (policies t) (entryAt t i))))))
+    (else-one (Named t) (entryPrefixesFault t) _ (first-one (Named t) _ _ none
+    (λ j l. atEntry j _ l (broken-most 13 (fresh (sameEntryPrefix t) j ∷ []))))
+    (else-one (Named t) (rulesFault t) _ (first-one (Named t) _ _ none
+    (λ k l. atRule k _ l (omega (arith, broken-most 0 (ruleConditions (ruleAt t k))))))
+    (else-one (Named t) (rulePrefixesFault t) _ (first-one (Named t) _ _ none
+    (λ j l. atRule j _ l (broken-most 11 (fresh (sameRulePrefix t) j ∷ []))))
     (first-one (Named t) _ _ none (λ j l. atPolicy j _ l (broken-most 0 (policyConditions (policyAt t j)))))))))

@@ -180,7 +180,8 @@ waypoint-written p h =
     let oq = splice-other b 43 (left ∷ []) 1 refl hq in
     record {
       size = splice-length b 43 (left ∷ []) 1 refl hq ∙ lb ∙ la;
-      hopLimit = oq 7 (λ l. omega arith) ∙ ob 7 (λ l. omega arith) ∙ ap (λ (l : List ℕ). octet l 0) (splice-window p 7 (hop ∷ []) 1 refl ha);
+      hopLimit = oq 7 (λ l. omega arith) ∙ ob 7 (λ l. omega arith)
+          ∙ ap (λ (l : List ℕ). octet l 0) (splice-window p 7 (hop ∷ []) 1 refl ha);
       segmentsLeft = ap (λ (l : List ℕ). octet l 0) (splice-window b 43 (left ∷ []) 1 refl hq);
       destination = window-same q b 24 24 16 (λ k l. oq (24 + k) (λ m. omega arith)) ∙ splice-window a 24 d 16 ld hb;
       others = λ i n7 n24 n43. oq i (λ l. omega (arith, n43)) ∙ ob i n24 ∙ oa i (λ l. omega (arith, n7));

@@ -33,7 +33,8 @@ Best matches bits n (At i) = BestAt matches bits n i
 
 module _ (matches : ℕ → Bool) (bits : ℕ → ℕ) where
   -- what holds of the matches below n, and of n where it matches, holds of those below n + 1
-  one-more : (P : ℕ → Type 0) (n : ℕ) → ((j : ℕ) → j < n → matches j ≡ true → P j) → (matches n ≡ true → P n) → (j : ℕ) → j < suc n → matches j ≡ true → P j
+  one-more : (P : ℕ → Type 0) (n : ℕ) → ((j : ℕ) → j < n → matches j ≡ true → P j) → (matches n ≡ true → P n) → (j : ℕ) → j < suc n
+      → matches j ≡ true → P j
   one-more P n front last j l h = pick (ℕ-discrete j n)
     where
       pick : Dec (j ≡ n) → P j
@@ -57,7 +58,11 @@ module _ (matches : ℕ → Bool) (bits : ℕ → ℕ) where
     where
       pick : (longer : Bool) → ltb (bits i) (bits n) ≡ longer → Best matches bits (suc n) (cond longer (At n) (At i))
       pick true q =
-          record { below = omega arith; hit = e; most = one-more (λ j. bits j ≤ bits n) n (λ j l h. omega (arith, ltb-true, b .most j l h)) (λ h. omega arith) }
+          record {
+            below = omega arith;
+            hit = e;
+            most = one-more (λ j. bits j ≤ bits n) n (λ j l h. omega (arith, ltb-true, b .most j l h)) (λ h. omega arith);
+          }
       pick false q =
           record { below = omega arith; hit = b .hit; most = one-more (λ j. bits j ≤ bits i) n (b .most) (λ h. omega (arith, ltb-false)) }
 
@@ -105,7 +110,8 @@ module _ (w : ℕ) (prefix : ℕ → List ℕ) (bits : ℕ → ℕ) (n : ℕ)
       let p = one-prefix a (prefix i) (prefix j) w (bits i) mi (rw e mj) (clean i (omega arith)) (rw e (clean j k)) in
       true≢false (rw (eq-eqb (bits i) (bits j) e, eq-eqb (number (prefix i) 0 w) (number (prefix j) 0 w) p) at (apart i j l k))
 
-  one-match : (i j : ℕ) → i < n → j < n → under w a (prefix i) (bits i) ≡ true → under w a (prefix j) (bits j) ≡ true → bits i ≡ bits j → i ≡ j
+  one-match : (i j : ℕ) → i < n → j < n → under w a (prefix i) (bits i) ≡ true → under w a (prefix j) (bits j) ≡ true → bits i ≡ bits j
+      → i ≡ j
   one-match i j li lj mi mj e = pick (decLt i j) (decLt j i)
     where
       pick : Dec (i < j) → Dec (j < i) → i ≡ j
@@ -114,17 +120,21 @@ module _ (w : ℕ) (prefix : ℕ → List ℕ) (bits : ℕ → ℕ) (n : ℕ)
       pick (no l) (no k) = omega arith
 
 module _ (limit : ℕ) (t a : List ℕ) (s : soundWithin limit t ≡ true) where
-  pub entry-one : (i j : ℕ) → i < entries t → j < entries t → entryMatches t a i ≡ true → entryMatches t a j ≡ true → entryBits t i ≡ entryBits t j → i ≡ j
+  pub entry-one : (i j : ℕ) → i < entries t → j < entries t → entryMatches t a i ≡ true → entryMatches t a j ≡ true
+      → entryBits t i ≡ entryBits t j → i ≡ j
   unfolding entrySound sameEntryPrefix
   entry-one =
       let h = sound-parts limit t s in
-      one-match 16 (λ i. Entry.prefix (entryAt t i)) (entryBits t) (entries t) (λ i l. let c = h .entry i l in search conjunct depth 20) (h .entry-apart) a
+      one-match 16 (λ i. Entry.prefix (entryAt t i)) (entryBits t) (entries t) (λ i l.
+      let c = h .entry i l in search conjunct depth 20) (h .entry-apart) a
 
-  pub rule-one : (i j : ℕ) → i < rules t → j < rules t → ruleMatches t a i ≡ true → ruleMatches t a j ≡ true → ruleBits t i ≡ ruleBits t j → i ≡ j
+  pub rule-one : (i j : ℕ) → i < rules t → j < rules t → ruleMatches t a i ≡ true → ruleMatches t a j ≡ true → ruleBits t i ≡ ruleBits t j
+      → i ≡ j
   unfolding ruleSound sameRulePrefix
   rule-one =
       let h = sound-parts limit t s in
-      one-match 4 (λ k. Rule.prefix (ruleAt t k)) (ruleBits t) (rules t) (λ k l. let c = h .rule k l in search conjunct depth 20) (h .rule-apart) a
+      one-match 4 (λ k. Rule.prefix (ruleAt t k)) (ruleBits t) (rules t) (λ k l.
+      let c = h .rule k l in search conjunct depth 20) (h .rule-apart) a
 
   -- whoever finds a longest match finds the one that the table's own match does
   pub the-longest-entry : (found : Found) → Best (entryMatches t a) (entryBits t) (entries t) found → matchEntry t a ≡ found

@@ -19,7 +19,8 @@ use Rattle.rules.proofs.Sids.{Fits}
 use Rattle.rules.proofs.FarE6.{datagram-length}
 
 -- QFI and R in the second content octet of a container; in uplink R is 0
-flow-back : (down : Bool) (q r : ℕ) → q < 64 → r < 2 → cond down 0 r ≡ 0 → ((cond down (r * 64) 0 + q) % 64 ≡ q) × (cond down ((cond down (r * 64) 0 + q) / 64 % 2) 0 ≡ r)
+flow-back : (down : Bool) (q r : ℕ) → q < 64 → r < 2 → cond down 0 r ≡ 0 → ((cond down (r * 64) 0 + q) % 64 ≡ q)
+    × (cond down ((cond down (r * 64) 0 + q) / 64 % 2) 0 ≡ r)
 flow-back true q r hq hr h = omega arith
 flow-back false q r hq hr h = omega arith
 
@@ -33,7 +34,9 @@ module _ (port direction : ℕ) (x : Args) (inner : List ℕ) (f : Fits x) where
 
   pub message-teid : Gtpu.teid (datagramOctets port direction x inner) ≡ x .teid
   unfolding window
-  message-teid = window-front (x .teid) (0 ∷ 0 ∷ 0 ∷ pduSessionContainer ∷ 1 ∷ (direction * 16) ∷ flowOctet direction (x .qfi) (x .reflective) ∷ 0 ∷ inner) 4 (f .tunnel)
+  message-teid =
+      window-front (x .teid) (0 ∷ 0 ∷ 0 ∷ pduSessionContainer ∷ 1 ∷ (direction * 16) ∷ flowOctet direction (x .qfi)
+      (x .reflective) ∷ 0 ∷ inner) 4 (f .tunnel)
 
   pub message-pduType : Gtpu.pduType (datagramOctets port direction x inner) ≡ direction
   message-pduType = rw (message-octet 5) (omega arith)
@@ -42,7 +45,8 @@ module _ (port direction : ℕ) (x : Args) (inner : List ℕ) (f : Fits x) where
   message-following = ap (λ (n : ℕ). octet (datagramOctets port direction x inner) (19 + 4 * n)) (message-octet 4) ∙ message-octet 7
 
   pub message-inner : Gtpu.innerOf (datagramOctets port direction x inner) ≡ inner
-  message-inner = ap (λ (n : ℕ). drop (20 + 4 * n) (datagramOctets port direction x inner)) (message-octet 4) ∙ drop-past (x .teid) _ 4 8 (f .tunnel)
+  message-inner = ap (λ (n : ℕ). drop (20 + 4 * n) (datagramOctets port direction x inner)) (message-octet 4)
+      ∙ drop-past (x .teid) _ 4 8 (f .tunnel)
 
   pub datagram-back : datagram (datagramOctets port direction x inner) ≡ record {
     size = 24 + length inner;
@@ -77,7 +81,8 @@ module _ (port direction : ℕ) (x : Args) (inner : List ℕ) (f : Fits x) where
 
   module _ (quiet : cond (eqb direction downlink) 0 (x .reflective) ≡ 0) where
     pub message-qfi : Gtpu.qfi (datagramOctets port direction x inner) ≡ x .qfi
-    message-qfi = ap (λ (n : ℕ). n % 64) (message-octet 6) ∙ flow-back (eqb direction downlink) (x .qfi) (x .reflective) (f .flow) (f .bit) quiet .0
+    message-qfi = ap (λ (n : ℕ). n % 64) (message-octet 6)
+        ∙ flow-back (eqb direction downlink) (x .qfi) (x .reflective) (f .flow) (f .bit) quiet .0
 
     pub message-reflective : Gtpu.reflective (datagramOctets port direction x inner) ≡ x .reflective
     message-reflective =
@@ -110,13 +115,18 @@ module _ (class : ℕ) (source destination u : List ℕ) where
 
   pub carriedBy-fits : Fits (carriedBy class source destination u .args)
   unfolding carriedBy
-  carriedBy-fits = record { flow = omega arith; bit = bit-of (eqb (Gtpu.pduType u) downlink) (octet u 22 / 64); tunnel = window-length u 12 4 }
+  carriedBy-fits = record {
+    flow = omega arith;
+    bit = bit-of (eqb (Gtpu.pduType u) downlink) (octet u 22 / 64);
+    tunnel = window-length u 12 4;
+  }
 
   silent : (down : Bool) (n : ℕ) → cond down 0 (cond down n 0) ≡ 0
   silent true n = refl
   silent false n = refl
 
   -- in uplink R is 0
-  pub carriedBy-quiet : (direction : ℕ) → Gtpu.pduType u ≡ direction → cond (eqb direction downlink) 0 (carriedBy class source destination u .args .reflective) ≡ 0
+  pub carriedBy-quiet : (direction : ℕ) → Gtpu.pduType u ≡ direction
+      → cond (eqb direction downlink) 0 (carriedBy class source destination u .args .reflective) ≡ 0
   unfolding carriedBy
   carriedBy-quiet direction h = rw (← h) (silent (eqb (Gtpu.pduType u) downlink) (Gtpu.reflectiveBit u))

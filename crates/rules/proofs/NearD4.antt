@@ -67,7 +67,8 @@ module _ (r p : List ℕ) where
   -- in uplink R is 0
   pub passed-quiet : Passed r p → cond (eqb (Rule.direction r) downlink) 0 (carried4 p .args .reflective) ≡ 0
   unfolding carried4 gPduRows datagram
-  passed-quiet n = carriedBy-quiet (Ipv4.tos p) (Ipv4.source p) (Ipv4.destination p) (datagramIn4 p) (Rule.direction r) (omega (read, n .gPdu))
+  passed-quiet n = carriedBy-quiet (Ipv4.tos p) (Ipv4.source p) (Ipv4.destination p) (datagramIn4 p) (Rule.direction r)
+      (omega (read, n .gPdu))
 
   -- the packet that went in had room for 44 octets of headers
   pub passed-fits : Octets p → Passed r p → e4TotalLength (carried4 p .inner) ≤ 65535
@@ -113,7 +114,8 @@ module _ (s : Stop) (p d : List ℕ) (k : ℕ) (a : AtRule s d k) (hd : Ipv4.des
       let (n, k₂) = unless-sent (frontRows4 t (header4 p)) found x k₁ in
       sent-passed (ruleAt t k) p x (n .1 .0) (n .1 .1 .0) (sym (ap (λ (f : Found). atFoundRule t p f) found-at ∙ at-found-rule t p k) ∙ k₂)
 
-  pub passed-call : (r : List ℕ) → ruleAt (s .table) k ≡ r → Passed r p → length (d4Packet r (carried4 p)) ≤ length (s .buffer) → call s p ≡ Sent (d4Packet r (carried4 p))
+  pub passed-call : (r : List ℕ) → ruleAt (s .table) k ≡ r → Passed r p → length (d4Packet r (carried4 p)) ≤ length (s .buffer)
+      → call s p ≡ Sent (d4Packet r (carried4 p))
   unfolding frontRows4
   passed-call r hr n room =
       let t = s .table in
@@ -130,7 +132,8 @@ module _ (s : Stop) (p d : List ℕ) (k : ℕ) (a : AtRule s d k) (hd : Ipv4.des
 
 -- WHAT E4 WRITES IS READ BACK
 
-module _ (f : List ℕ) (c : Carried) (v : Valid 4 c) (hs : length (c .source) ≡ 4) (os : Octets (c .source)) (od : Octets (c .destination)) (ttl : Entry.hopLimit f < 256) (fits : e4TotalLength (c .inner) ≤ 65535) where
+module _ (f : List ℕ) (c : Carried) (v : Valid 4 c) (hs : length (c .source) ≡ 4) (os : Octets (c .source)) (od : Octets (c .destination))
+    (ttl : Entry.hopLimit f < 256) (fits : e4TotalLength (c .inner) ≤ 65535) where
   rest : List ℕ
   rest = datagramOctets (Entry.sourcePort f) (Entry.direction f) (c .args) (c .inner)
 
@@ -155,7 +158,8 @@ module _ (f : List ℕ) (c : Carried) (v : Valid 4 c) (hs : length (c .source) �
         moreFragments = 0;
         fragmentOffset = 0;
         protocol = udpProtocol;
-        headerSum = ipv4-sum (c .trafficClass) (e4TotalLength (c .inner)) (Entry.hopLimit f) (c .source) (c .destination) rest (v .octet) (omega arith) ttl hs (v .to) os od k;
+        headerSum = ipv4-sum (c .trafficClass) (e4TotalLength (c .inner)) (Entry.hopLimit f) (c .source) (c .destination) rest (v .octet)
+            (omega arith) ttl hs (v .to) os od k;
       }
 
   pub back-datagram : datagramIn4 (e4Packet f c) ≡ datagramOctets (Entry.sourcePort f) (Entry.direction f) (c .args) (c .inner)
@@ -181,7 +185,8 @@ module _ (f : List ℕ) (c : Carried) (v : Valid 4 c) (hs : length (c .source) �
       ∙ carriedBy-back (Entry.sourcePort f) (Entry.direction f) c (v .args) quiet
 
   -- no row applies to it at D4
-  pub back-passed : (r : List ℕ) → Entry.direction f ≡ Rule.direction r → cond (eqb (Entry.direction f) downlink) 0 (c .args .reflective) ≡ 0
+  pub back-passed : (r : List ℕ) → Entry.direction f ≡ Rule.direction r
+      → cond (eqb (Entry.direction f) downlink) 0 (c .args .reflective) ≡ 0
       → None (d4Rows r (c .inner)) → Passed r (e4Packet f c)
   unfolding gtp4Rows messageRows gPduRows
   back-passed r hd quiet n =

@@ -94,8 +94,10 @@ module _ (f : List ℕ) (c : Carried) (v : Valid 16 c) (none : c .source ≡ [])
   }
   unfolding e6Packet rest
   back-header =
-      let l : 40 + length rest ≡ 64 + length (c .inner) = rw (datagram-length (Entry.sourcePort f) (Entry.direction f) (c .args) (c .inner) (v .args)) (omega arith) in
-      ipv6-header (c .trafficClass) (e6Payload (c .inner)) udpProtocol (Entry.hopLimit f) (Entry.source f) (c .destination) rest (window-length f 32 16) (v .to) (v .octet)
+      let l : 40 + length rest ≡ 64 + length (c .inner) =
+      rw (datagram-length (Entry.sourcePort f) (Entry.direction f) (c .args) (c .inner) (v .args)) (omega arith) in
+      ipv6-header (c .trafficClass) (e6Payload (c .inner)) udpProtocol (Entry.hopLimit f) (Entry.source f) (c .destination) rest
+      (window-length f 32 16) (v .to) (v .octet)
       ∙ (λ k. record {
         size = l k;
         version = 6;
@@ -113,15 +115,19 @@ module _ (f : List ℕ) (c : Carried) (v : Valid 16 c) (none : c .source ≡ [])
 
   pub back-datagram : datagramIn6 (e6Packet f c) ≡ datagramOctets (Entry.sourcePort f) (Entry.direction f) (c .args) (c .inner)
   unfolding e6Packet rest
-  back-datagram = rw back-header (ipv6-drop (c .trafficClass) (e6Payload (c .inner)) udpProtocol (Entry.hopLimit f) (Entry.source f) (c .destination) rest (window-length f 32 16) (v .to) 0)
+  back-datagram =
+      rw back-header (ipv6-drop (c .trafficClass) (e6Payload (c .inner)) udpProtocol (Entry.hopLimit f) (Entry.source f) (c .destination)
+      rest (window-length f 32 16) (v .to) 0)
 
   pub back-destination : Ipv6.destination (e6Packet f c) ≡ c .destination
   unfolding e6Packet rest
-  back-destination = ipv6-destination (c .trafficClass) (e6Payload (c .inner)) udpProtocol (Entry.hopLimit f) (Entry.source f) (c .destination) rest (window-length f 32 16) (v .to)
+  back-destination = ipv6-destination (c .trafficClass) (e6Payload (c .inner)) udpProtocol (Entry.hopLimit f) (Entry.source f)
+      (c .destination) rest (window-length f 32 16) (v .to)
 
   back-class : Ipv6.trafficClass (e6Packet f c) ≡ c .trafficClass
   unfolding e6Packet rest
-  back-class = ipv6-trafficClass (c .trafficClass) (e6Payload (c .inner)) udpProtocol (Entry.hopLimit f) (Entry.source f) (c .destination) rest (window-length f 32 16) (v .to) (v .octet)
+  back-class = ipv6-trafficClass (c .trafficClass) (e6Payload (c .inner)) udpProtocol (Entry.hopLimit f) (Entry.source f) (c .destination)
+      rest (window-length f 32 16) (v .to) (v .octet)
 
   pub back-values : cond (eqb (Entry.direction f) downlink) 0 (c .args .reflective) ≡ 0 → carried6 (e6Packet f c) ≡ c
   unfolding carried6
@@ -130,7 +136,8 @@ module _ (f : List ℕ) (c : Carried) (v : Valid 16 c) (none : c .source ≡ [])
       ∙ carriedBy-back (Entry.sourcePort f) (Entry.direction f) c (v .args) quiet
 
   -- no row applies to it there
-  pub back-passed : (e : List ℕ) (path : List (List ℕ)) → Entry.direction f ≡ Entry.direction e → cond (eqb (Entry.direction f) downlink) 0 (c .args .reflective) ≡ 0
+  pub back-passed : (e : List ℕ) (path : List (List ℕ)) → Entry.direction f ≡ Entry.direction e
+      → cond (eqb (Entry.direction f) downlink) 0 (c .args .reflective) ≡ 0
       → None (gtp6DRows e path (c .inner)) → Passed e path (e6Packet f c)
   unfolding gtp6Rows messageRows gPduRows
   back-passed e path hd quiet n =

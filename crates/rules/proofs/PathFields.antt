@@ -24,7 +24,8 @@ use Rattle.rules.specs.D.{lastWithArgs, dPath, dPacket}
 use Rattle.rules.specs.Di.{diPath, diPacket}
 use Rattle.rules.specs.Written.{Ipv6Fields, SrhFields, SessionHeader, sidOf, WithArgs, WrittenD, WrittenDi}
 use Rattle.rules.proofs.Windows.{window-length, window-same, window-drop}
-use Rattle.rules.proofs.Reading.{Addresses, addresses-append, length-segments, drop-segments, ipv6-drop, ipv6-octet, ipv6-source, ipv6-destination, ipv6-segment}
+use Rattle.rules.proofs.Reading.{Addresses, addresses-append, length-segments, drop-segments, ipv6-drop, ipv6-octet, ipv6-source}
+use Rattle.rules.proofs.Reading.{ipv6-destination, ipv6-segment}
 use Rattle.rules.proofs.Waypoints.{segment-behind}
 use Rattle.rules.proofs.Sids.{Fits, withArgs-length, withArgs-back, withArgs-before}
 use Rattle.rules.proofs.FarE6.{Valid}
@@ -149,7 +150,8 @@ module _ (sid : List ℕ) (start : ℕ) (x : Args) (hs : length sid ≡ 16) (hb 
   withArgs-splice : withArgs sid start x ≡ splice sid (start / 8) (argsOctets x)
   unfolding withArgs
   withArgs-splice =
-      let e : take (start / 8) sid ++ (argsOctets x ++ drop (start / 8 + length (argsOctets x)) sid) ≡ withArgs sid start x = rw (f .tunnel) in
+      let e : take (start / 8) sid ++ (argsOctets x ++ drop (start / 8 + length (argsOctets x)) sid) ≡ withArgs sid start x =
+      rw (f .tunnel) in
       sym (splice-parts sid (start / 8) (argsOctets x) ∙ e)
 
   pub withArgs-other : (i : ℕ) → (start / 8 ≤ i → start / 8 + 5 ≤ i) → octet (withArgs sid start x) i ≡ octet sid i
@@ -158,7 +160,8 @@ module _ (sid : List ℕ) (start : ℕ) (x : Args) (hs : length sid ≡ 16) (hb 
   pub withArgs-unused : octet (withArgs sid start x) (start / 8) % 2 ≡ 0
   unfolding withArgs
   withArgs-unused =
-      rw (getD-at (take (start / 8) sid) (firstOctet (x .qfi) (x .reflective)) (x .teid ++ drop (start / 8 + 5) sid) 0 (start / 8) (length-take-le (start / 8) sid (omega arith)))
+      rw (getD-at (take (start / 8) sid) (firstOctet (x .qfi) (x .reflective)) (x .teid ++ drop (start / 8 + 5) sid) 0 (start / 8)
+      (length-take-le (start / 8) sid (omega arith)))
       (omega arith)
 
   pub withArgs-fields : WithArgs (withArgs sid start x) start x sid
@@ -166,7 +169,8 @@ module _ (sid : List ℕ) (start : ℕ) (x : Args) (hs : length sid ≡ 16) (hb 
     carries = withArgs-back sid start x hs hb f;
     unused = withArgs-unused;
     before = withArgs-before sid start x hs hb f 0 (start / 8) (omega arith);
-    after = window-same (withArgs sid start x) sid (start / 8 + 5) (start / 8 + 5) (11 - start / 8) (λ k l. withArgs-other (start / 8 + 5 + k) (λ m. omega arith));
+    after = window-same (withArgs sid start x) sid (start / 8 + 5) (start / 8 + 5) (11 - start / 8)
+        (λ k l. withArgs-other (start / 8 + 5 + k) (λ m. omega arith));
   }
 
 -- D AND DI
@@ -174,21 +178,25 @@ module _ (sid : List ℕ) (start : ℕ) (x : Args) (hs : length sid ≡ 16) (hb 
 -- along a policy's SIDs, the last of them with Args, and a tail
 module _ (e y : List ℕ) (c : Carried) (v : Valid 16 c) (hn : 1 ≤ Policy.sidCount y) (hb : Policy.start y ≤ 88) where
   last-fields : WithArgs (lastWithArgs y (c .args)) (Policy.start y) (c .args) (Policy.lastSid y)
-  last-fields = withArgs-fields (Policy.lastSid y) (Policy.start y) (c .args) (window-length y (16 + 16 * (Policy.sidCount y - 1)) 16) hb (v .args)
+  last-fields = withArgs-fields (Policy.lastSid y) (Policy.start y) (c .args) (window-length y (16 + 16 * (Policy.sidCount y - 1)) 16) hb
+      (v .args)
 
   last-length : length (lastWithArgs y (c .args)) ≡ 16
-  last-length = withArgs-length (Policy.lastSid y) (Policy.start y) (c .args) (window-length y (16 + 16 * (Policy.sidCount y - 1)) 16) hb (v .args)
+  last-length = withArgs-length (Policy.lastSid y) (Policy.start y) (c .args) (window-length y (16 + 16 * (Policy.sidCount y - 1)) 16) hb
+      (v .args)
 
   module _ (tail : List (List ℕ)) (ht : Addresses tail) (n last : ℕ) (hl : n ≡ last + 1) (hm : n ≡ Policy.sidCount y + length tail) where
     packet : List ℕ
     packet = gtp6DPacket e (Policy.waypoints y ++ lastWithArgs y (c .args) ∷ tail) c
 
-    policy-along : Along packet (c .trafficClass) (innerProtocol (Entry.session e) (c .inner)) (Entry.hopLimit e) (Entry.source e) (Policy.waypoints y ++ lastWithArgs y (c .args) ∷ tail) (c .inner) n last
+    policy-along : Along packet (c .trafficClass) (innerProtocol (Entry.session e) (c .inner)) (Entry.hopLimit e) (Entry.source e)
+        (Policy.waypoints y ++ lastWithArgs y (c .args) ∷ tail) (c .inner) n last
     unfolding packet gtp6DPacket
     policy-along =
         let w = lastWithArgs y (c .args) in
         let m = Policy.sidCount y - 1 in
-        along (c .trafficClass) (innerProtocol (Entry.session e) (c .inner)) (Entry.hopLimit e) (Entry.source e) (Policy.waypoints y ++ w ∷ tail) (c .inner) n last
+        along (c .trafficClass) (innerProtocol (Entry.session e) (c .inner)) (Entry.hopLimit e) (Entry.source e)
+        (Policy.waypoints y ++ w ∷ tail) (c .inner) n last
         (v .octet) (window-length e 32 16) (path-addresses y 16 m w tail last-length ht) (path-length y 16 m w tail ∙ omega arith) hl
 
     policy-session : SessionHeader (Entry.session e) (Srh.nextHeader packet) (c .inner)

@@ -26,10 +26,13 @@ unfolding addressesAt
 addressesAt-length s i zero = refl
 addressesAt-length s i (suc n) = ap suc (addressesAt-length s (i + 16) n)
 
-module _ (class upper hop : ℕ) (source : List ℕ) (ws tail : List (List ℕ)) (inner : List ℕ) (session : ℕ) (octet : class < 256) (k : Carries session upper)
-    (from : length source ≡ 16) (hw : Addresses ws) (ht : Addresses tail) (some : 0 < length tail) (fits : srv6Payload (ws ++ tail) inner ≤ 65535) where
+module _ (class upper hop : ℕ) (source : List ℕ) (ws tail : List (List ℕ)) (inner : List ℕ) (session : ℕ) (octet : class < 256)
+    (k : Carries session upper)
+    (from : length source ≡ 16) (hw : Addresses ws) (ht : Addresses tail) (some : 0 < length tail)
+    (fits : srv6Payload (ws ++ tail) inner ≤ 65535) where
   -- at any hop limit, with all of the path or its tail still to go
-  way-of : (hop : ℕ) (path : List (List ℕ)) → Addresses path → 0 < length path → length path ≤ length (ws ++ tail) + 1 → Way class upper hop source (ws ++ tail) path inner
+  way-of : (hop : ℕ) (path : List (List ℕ)) → Addresses path → 0 < length path → length path ≤ length (ws ++ tail) + 1
+      → Way class upper hop source (ws ++ tail) path inner
   way-of hop path hp h0 hl = record {
     octet = octet;
     not0 = k .not0;
@@ -53,7 +56,8 @@ module _ (class upper hop : ℕ) (source : List ℕ) (ws tail : List (List ℕ))
   pub srv6-length : length (srv6 class upper hop source (ws ++ tail) inner) ≡ 48 + 16 * length (ws ++ tail) + length inner
   srv6-length = way-length class upper hop source (ws ++ tail) (ws ++ tail) inner way-begin
 
-  pub arrives : (ss : List Stop) → length ss < hop → AtWaypoints ss ws → EachHasRoom ss (length (srv6 class upper hop source (ws ++ tail) inner))
+  pub arrives : (ss : List Stop) → length ss < hop → AtWaypoints ss ws
+      → EachHasRoom ss (length (srv6 class upper hop source (ws ++ tail) inner))
       → trip ss (srv6 class upper hop source (ws ++ tail) inner)
       ≡ forwards ss (srv6 class upper hop source (ws ++ tail) inner) (onTheWay class upper (hop - length ss) source (ws ++ tail) tail inner)
   unfolding Ends

@@ -18,5 +18,6 @@ unfolding clear firstBits
 clear-bits p w b h = omega (arith, eqb-true, split (number p 0 w) (8 * w - b))
 
 -- two prefixes of one length that an address lies under, with no bits past it, are the same
-pub one-prefix : (a p q : List ℕ) (w b : ℕ) → under w a p b ≡ true → under w a q b ≡ true → clear w p b ≡ true → clear w q b ≡ true → number p 0 w ≡ number q 0 w
+pub one-prefix : (a p q : List ℕ) (w b : ℕ) → under w a p b ≡ true → under w a q b ≡ true → clear w p b ≡ true → clear w q b ≡ true
+    → number p 0 w ≡ number q 0 w
 one-prefix a p q w b up uq cp cq = cc (under-bits a p w b up, under-bits a q w b uq, clear-bits p w b cp, clear-bits q w b cq)

@@ -33,7 +33,8 @@ pub drop-segments : (path : List (List ℕ)) (rest : List ℕ) → Addresses pat
 drop-segments [] rest h = refl
 drop-segments (s ∷ path) rest h =
     let e : 16 * suc (length path) ≡ 16 * length path + 16 = omega arith in
-    rw (e, ← (drop-drop 16 (16 * length path) (segments path (s ++ rest))), drop-segments path (s ++ rest) (h .1)) (drop-at s rest 16 (h .0))
+    rw (e, ← (drop-drop 16 (16 * length path) (segments path (s ++ rest))), drop-segments path (s ++ rest) (h .1))
+    (drop-at s rest 16 (h .0))
 
 pub segments-append : (xs ys : List (List ℕ)) (rest : List ℕ) → segments (xs ++ ys) rest ≡ segments ys (segments xs rest)
 segments-append [] ys rest = refl
@@ -45,7 +46,8 @@ module _ (class payload next hop : ℕ) (s d rest : List ℕ) (hs : length s ≡
   ipv6-length = simp length-append (omega arith)
 
   pub ipv6-drop : (i : ℕ) → drop (40 + i) (ipv6 class payload next hop s d rest) ≡ drop i rest
-  ipv6-drop i = sym (drop-drop i 40 (ipv6 class payload next hop s d rest)) ∙ ap (drop i) (drop-past s (d ++ rest) 16 16 hs ∙ drop-past d rest 16 0 hd)
+  ipv6-drop i = sym (drop-drop i 40 (ipv6 class payload next hop s d rest))
+      ∙ ap (drop i) (drop-past s (d ++ rest) 16 16 hs ∙ drop-past d rest 16 0 hd)
 
   pub ipv6-octet : (i : ℕ) → octet (ipv6 class payload next hop s d rest) (40 + i) ≡ octet rest i
   ipv6-octet i = sym (getD-drop 40 (ipv6 class payload next hop s d rest) i 0) ∙ ap (λ (l : List ℕ). getD l i 0) (ipv6-drop 0)

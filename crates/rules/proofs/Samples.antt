@@ -54,12 +54,14 @@ header entries rules policies rest = 1 ∷ 0 ∷ put16 entries (put16 rules (put
 -- IPv6 sessions downlink, hop limit 64, policy 0, Args at bit 64, p 6, q 8, source port 2152, source 2001:db8:b:63::
 abbrev pub entry : (behaviour prefixLength : ℕ) (prefix : List ℕ) → List ℕ
 entry behaviour prefixLength prefix =
-    behaviour ∷ prefixLength ∷ 64 ∷ downlink ∷ ipv6Session ∷ 0 ∷ 64 ∷ 6 ∷ 8 ∷ 0 ∷ put16 2152 (zeros 4 ++ (prefix ++ (sidOf 0x63 ++ zeros 16)))
+    behaviour ∷ prefixLength ∷ 64 ∷ downlink ∷ ipv6Session ∷ 0 ∷ 64 ∷ 6 ∷ 8 ∷ 0 ∷ put16 2152
+    (zeros 4 ++ (prefix ++ (sidOf 0x63 ++ zeros 16)))
 
 -- IPv6 sessions downlink, hop limit 64, p 6, q 8, any destination
 abbrev pub rule : (waypoints : List (List ℕ)) → List ℕ
 rule waypoints =
-    0 ∷ 64 ∷ downlink ∷ ipv6Session ∷ 6 ∷ 8 ∷ length waypoints ∷ 0 ∷ zeros 8 ++ (network 0xc ++ (network 0xd ++ (joined waypoints ++ zeros (112 - 16 * length waypoints))))
+    0 ∷ 64 ∷ downlink ∷ ipv6Session ∷ 6 ∷ 8 ∷ length waypoints ∷ 0 ∷ zeros 8
+    ++ (network 0xc ++ (network 0xd ++ (joined waypoints ++ zeros (112 - 16 * length waypoints))))
 
 -- Args at bit 64
 abbrev pub policy : (sids : List (List ℕ)) → List ℕ
@@ -72,7 +74,8 @@ table behaviour waypoints =
     header 4 1 1
     (entry behaviour 48 (network 0xa)
     ++ (entry endMGtp6E 64 (sidOf 1)
-    ++ (entry end 64 (sidOf 2) ++ (entry endMGtp4E 48 (network 0xc) ++ (rule (replicate waypoints (sidOf 2)) ++ policy (replicate waypoints (sidOf 2) ++ sidOf 1 ∷ []))))))
+    ++ (entry end 64 (sidOf 2) ++ (entry endMGtp4E 48 (network 0xc)
+    ++ (rule (replicate waypoints (sidOf 2)) ++ policy (replicate waypoints (sidOf 2) ++ sidOf 1 ∷ []))))))
 
 -- PACKETS
 
@@ -85,7 +88,13 @@ abbrev pub values6 : (inner : List ℕ) → Carried
 values6 inner = record { trafficClass = 0x2e; source = []; destination = gateway6; args = argsOf 9 1; inner = inner }
 
 abbrev pub values4 : (inner : List ℕ) → Carried
-values4 inner = record { trafficClass = 0x2e; source = 198 ∷ 51 ∷ 100 ∷ 7 ∷ []; destination = 192 ∷ 0 ∷ 2 ∷ 1 ∷ []; args = argsOf 9 1; inner = inner }
+values4 inner = record {
+  trafficClass = 0x2e;
+  source = 198 ∷ 51 ∷ 100 ∷ 7 ∷ [];
+  destination = 192 ∷ 0 ∷ 2 ∷ 1 ∷ [];
+  args = argsOf 9 1;
+  inner = inner;
+}
 
 abbrev pub packet6 : (inner : List ℕ) → List ℕ
 packet6 inner = e6Packet (entry endMGtp6E 0 (zeros 16)) (values6 inner)

@@ -56,7 +56,11 @@ args-fits sid start = record { flow = omega arith; bit = omega arith; tunnel = w
 
 pub e6Carried-valid : (e p : List ℕ) → Octets p → Valid 16 (e6Carried e p)
 unfolding e6Carried Srh.segment
-e6Carried-valid e p o = record { octet = omega (arith, o 1); to = window-length p 48 16; args = args-fits (Ipv6.destination p) (Entry.start e) }
+e6Carried-valid e p o = record {
+  octet = omega (arith, o 1);
+  to = window-length p 48 16;
+  args = args-fits (Ipv6.destination p) (Entry.start e);
+}
 
 pub e4Carried-valid : (e p : List ℕ) → Octets p → Valid 4 (e4Carried e p)
 unfolding e4Carried
@@ -109,7 +113,8 @@ e4-sent e p x o ttl h =
     let to = Ipv6.destination p in
     rw q at
     (e4-written e (e4Carried e p) (e4Carried-valid e p o) (window-length from (Entry.q e) 4)
-    (octets-window from (Entry.q e) 4 (octets-window p 8 16 o)) (octets-window to (Entry.p e) 4 (octets-window p 24 16 o)) ttl (omega (read, m)))
+    (octets-window from (Entry.q e) 4 (octets-window p 8 16 o)) (octets-window to (Entry.p e) 4 (octets-window p 24 16 o)) ttl
+    (omega (read, m)))
 
 d4-sent : (r p x : List ℕ) → Octets p → Rule.p r ≤ 7 → Rule.q r ≤ 12 → atD4 r p ≡ Sent x → WrittenD4 r (carried4 p) x
 unfolding atD4
@@ -138,7 +143,8 @@ sent6-written p t room x op ot h =
     let (n, k) = unless-sent rows rest x (sent-settle room (unless rows rest) x (sym (settled6 p t room) ∙ h)) in
     found (not-false (sound t) (n .0 .0)) (n .1 .0) (matchEntry t to) refl k
   where
-    found : sound t ≡ true → Clear (malformed (header p)) → (f : Found) → matchEntry t (Ipv6.destination p) ≡ f → atFoundEntry t p f ≡ Sent x
+    found : sound t ≡ true → Clear (malformed (header p)) → (f : Found) → matchEntry t (Ipv6.destination p) ≡ f
+        → atFoundEntry t p f ≡ Sent x
         → (i : ℕ) × ((matchEntry t (Ipv6.destination p) ≡ At i) × SentAtEntry t (entryAt t i) p x)
     found s front Nothing m h = let no = sym (at-no-entry t p) ∙ h in let z : _≡_ {A = ℕ} 0 1 = cc in absurd (omega arith)
     found s front (At i) m h =

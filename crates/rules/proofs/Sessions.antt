@@ -7,7 +7,8 @@ use native.Mathlib.Omega.{arith}
 use lib.Dec.{eqb}
 use borrow.Author.Tests.{eqb-true}
 use Rattle.rules.specs.Octets.{octet}
-use Rattle.rules.specs.Assigned.{hopByHop, routingHeader, fragmentHeader, destinationOptions, ipv4Session, ipv6Session, ipv4v6Session, ethernetSession, ipv4Protocol, ipv6Protocol}
+use Rattle.rules.specs.Assigned.{hopByHop, routingHeader, fragmentHeader, destinationOptions, ipv4Session, ipv6Session, ipv4v6Session}
+use Rattle.rules.specs.Assigned.{ethernetSession, ipv4Protocol, ipv6Protocol}
 use Rattle.rules.specs.Sound.{sessionKnown}
 use Rattle.rules.specs.Session.{innerProtocol, accepts}
 

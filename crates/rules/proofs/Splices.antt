@@ -26,7 +26,8 @@ module _ (b : List ℕ) (i : ℕ) (x : List ℕ) (n : ℕ) (hx : length x ≡ n)
   splice-window =
       let t = take i b in
       let r = x ++ drop (i + length x) b in
-      ap (λ (l : List ℕ). window l i n) (splice-parts b i x) ∙ ap (λ (k : ℕ). window (t ++ r) k n) (sym (add-zero i)) ∙ window-past t r i 0 n front ∙ window-front x (drop (i + length x) b) n hx
+      ap (λ (l : List ℕ). window l i n) (splice-parts b i x) ∙ ap (λ (k : ℕ). window (t ++ r) k n) (sym (add-zero i))
+      ∙ window-past t r i 0 n front ∙ window-front x (drop (i + length x) b) n hx
 
   pub splice-other : (k : ℕ) → (i ≤ k → i + n ≤ k) → octet (splice b i x) k ≡ octet b k
   splice-other k h = ap (λ (l : List ℕ). octet l k) (splice-parts b i x) ∙ pick (decLe i k)

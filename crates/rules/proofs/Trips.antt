@@ -60,7 +60,8 @@ trip-append (s ∷ xs) ys p = go (λ o. trip-append xs ys o) (call s p)
         let held = overlay (Sent x) (s .buffer) in
         let y = take (length x) held in
         join-more (trip xs y .outcome) held (trip xs y .buffers) ys (λ o. trip ys o) (trip (xs ++ ys) y) (ih y)
-    go ih (Refused r) = ap (λ (l : List (List ℕ)). record { outcome = Refused r; buffers = overlay (Refused r) (s .buffer) ∷ l }) (buffersOf-append xs ys)
+    go ih (Refused r) = ap (λ (l : List (List ℕ)). record { outcome = Refused r; buffers = overlay (Refused r) (s .buffer) ∷ l })
+        (buffersOf-append xs ys)
 
 pub trip-none : (p : List ℕ) → trip [] p ≡ record { outcome = Sent p; buffers = [] }
 unfolding trip

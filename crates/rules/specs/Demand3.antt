@@ -85,7 +85,8 @@ pub record Matching6 (near : Stop) (ss : List Stop) (far : Stop) (packet : List 
   pub direction : Entry.direction (entryAt (far .table) j) ≡ Entry.direction (entryAt (near .table) i)
   pub session : Entry.session (entryAt (far .table) j) ≡ Entry.session (entryAt (near .table) i)
   pub start : Entry.start (entryAt (far .table) j) ≡ Policy.start (policyOf near i)
-  pub room : Room near ss far (length (diPacket (entryAt (near .table) i) (policyOf near i) (carried6 packet))) (length (e6Packet (entryAt (far .table) j) (carried6 packet)))
+  pub room : Room near ss far (length (diPacket (entryAt (near .table) i) (policyOf near i) (carried6 packet)))
+      (length (e6Packet (entryAt (far .table) j) (carried6 packet)))
 
 -- A trip from rule k of the near gateway to the E4 entry j of the far one. After D4 the waypoints are the rule's.
 pub record Matching4 (near : Stop) (ss : List Stop) (far : Stop) (packet : List ℕ) (k j : ℕ) : Type 0 where
@@ -100,7 +101,8 @@ pub record Matching4 (near : Stop) (ss : List Stop) (far : Stop) (packet : List 
   pub session : Entry.session (entryAt (far .table) j) ≡ Rule.session (ruleAt (near .table) k)
   pub p : Entry.p (entryAt (far .table) j) ≡ Rule.p (ruleAt (near .table) k)
   pub q : Entry.q (entryAt (far .table) j) ≡ Rule.q (ruleAt (near .table) k)
-  pub room : Room near ss far (length (d4Packet (ruleAt (near .table) k) (carried4 packet))) (length (e4Packet (entryAt (far .table) j) (carried4 packet)))
+  pub room : Room near ss far (length (d4Packet (ruleAt (near .table) k) (carried4 packet)))
+      (length (e4Packet (entryAt (far .table) j) (carried4 packet)))
 
 pub data Matching (near : Stop) (ss : List Stop) (far : Stop) (packet : List ℕ) : Type 0 where
   over6 : (i j : ℕ) → Matching6 near ss far packet i j → Matching near ss far packet
@@ -132,7 +134,8 @@ EachSame [] (s′ ∷ ss′) = ⊥
 EachSame (s ∷ ss) [] = ⊥
 
 -- other stops for a second trip: the same calls and tables, other buffers, which have room too
-pub record Again (near : Stop) (ss : List Stop) (far : Stop) (near′ : Stop) (ss′ : List Stop) (far′ : Stop) (onTheWay atTheEnd : ℕ) : Type 0 where
+pub record Again (near : Stop) (ss : List Stop) (far : Stop) (near′ : Stop) (ss′ : List Stop) (far′ : Stop) (onTheWay atTheEnd : ℕ)
+    : Type 0 where
   pub sameNear : Same near near′
   pub sameWaypoints : EachSame ss ss′
   pub sameFar : Same far far′

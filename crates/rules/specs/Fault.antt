@@ -4,7 +4,8 @@ use mathlib.Core.List.{List, [], _∷_}
 use Prim.Native.Nat.{ℕ, zero, suc, _+_, _*_}
 use lib.Dec.{eqb}
 use Rattle.rules.specs.Table.{entries, rules, policies, entryAt, ruleAt, policyAt}
-use Rattle.rules.specs.Sound.{headerConditions, entryConditions, ruleConditions, policyConditions, fresh, sameEntryPrefix, sameRulePrefix, entryLimit}
+use Rattle.rules.specs.Sound.{headerConditions, entryConditions, ruleConditions, policyConditions, fresh, sameEntryPrefix}
+use Rattle.rules.specs.Sound.{sameRulePrefix, entryLimit}
 
 -- CONDITIONS
 

@@ -49,7 +49,8 @@ pub record ReadBack (answer n kind code at octets : ℕ) : Type 0 where
   pub pointer : answer / 0x1000000 % 0x10000 ≡ at
   pub size : answer / 0x10000000000 ≡ octets
 
--- An answer of the list (docs/RULES.md, Answers): 0 with the length of what is sent, or a number from 1 to 16 with its ICMP fields and length 0.
+-- An answer of the list (docs/RULES.md, Answers): 0 with the length of what is sent, or a number from 1 to 16 with its ICMP fields and
+-- length 0.
 pub data Listed (refusalOf : ℕ → Refusal) (o : Outcome) : Type 0 where
   sent : (x : List ℕ) → o ≡ Sent x → ReadBack (packed o) 0 0 0 0 (length x) → Listed refusalOf o
   refused : (n : ℕ) → 1 ≤ n → n ≤ 16 → o ≡ Refused (refusalOf n)

@@ -33,4 +33,5 @@ destination p = window p 24 16
 -- version 6, flow label 0 (house)
 abbrev pub ipv6 : (trafficClass payloadLength nextHeader hopLimit : ℕ) (source destination rest : List ℕ) → List ℕ
 ipv6 trafficClass payloadLength nextHeader hopLimit source destination rest =
-    (0x60 + trafficClass / 16) ∷ (trafficClass % 16 * 16) ∷ 0 ∷ 0 ∷ put16 payloadLength (nextHeader ∷ hopLimit ∷ (source ++ (destination ++ rest)))
+    (0x60 + trafficClass / 16) ∷ (trafficClass % 16 * 16) ∷ 0 ∷ 0 ∷ put16 payloadLength
+    (nextHeader ∷ hopLimit ∷ (source ++ (destination ++ rest)))

@@ -65,7 +65,8 @@ pub record ReadAtE4 (e p : List ℕ) (c : Carried) : Type 0 where
 
 -- packet p became x at entry e of table t; the entry has one of these behaviours, by their numbers in RFC 8986 and RFC 9433
 pub record SentAtEntry (t e p x : List ℕ) : Type 0 where
-  pub known : eqb (Entry.behaviour e) 1 || (eqb (Entry.behaviour e) 69 || (eqb (Entry.behaviour e) 70 || (eqb (Entry.behaviour e) 71 || eqb (Entry.behaviour e) 72))) ≡ true
+  pub known : eqb (Entry.behaviour e) 1
+      || (eqb (Entry.behaviour e) 69 || (eqb (Entry.behaviour e) 70 || (eqb (Entry.behaviour e) 71 || eqb (Entry.behaviour e) 72))) ≡ true
   pub waypoint : Entry.behaviour e ≡ 1 → WrittenWaypoint p x
   pub d : Entry.behaviour e ≡ 69 → WrittenD e (policyAt t (Entry.policy e)) (carried6 p) x
   pub di : Entry.behaviour e ≡ 70 → WrittenDi e (policyAt t (Entry.policy e)) (carried6 p) x

@@ -4,7 +4,8 @@ use mathlib.Core.List.{List}
 use Prim.Native.Nat.{ℕ, _/_}
 use lib.Dec.{eqb}
 use Rattle.rules.specs.Octets.{octet}
-use Rattle.rules.specs.Assigned.{ipv4Session, ipv6Session, ipv4v6Session, ethernetSession, ipv4Protocol, ipv6Protocol, ethernetProtocol}
+use Rattle.rules.specs.Assigned.{ipv4Session, ipv6Session, ipv4v6Session, ethernetSession, ipv4Protocol, ipv6Protocol}
+use Rattle.rules.specs.Assigned.{ethernetProtocol}
 
 -- as written; an IPv4v6 session takes 4 or 41 from the inner first nibble
 unfoldable pub innerProtocol : (session : ℕ) (inner : List ℕ) → ℕ

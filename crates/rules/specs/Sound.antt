@@ -6,7 +6,8 @@ use lib.Dec.{eqb, leb, ltb}
 use lib.ListN.{length}
 use Rattle.rules.specs.Octets.{number}
 use Rattle.rules.specs.Prefix.{clear}
-use Rattle.rules.specs.Assigned.{end, endMGtp6D, endMGtp6DDi, endMGtp6E, endMGtp4E, ipv4Session, ipv6Session, ipv4v6Session, ethernetSession, downlink, uplink}
+use Rattle.rules.specs.Assigned.{end, endMGtp6D, endMGtp6DDi, endMGtp6E, endMGtp4E, ipv4Session, ipv6Session, ipv4v6Session}
+use Rattle.rules.specs.Assigned.{ethernetSession, downlink, uplink}
 use Rattle.rules.specs.Table.{format, entries, rules, policies, tableSize, entryAt, ruleAt, policyAt}
 use Rattle.rules.specs.Entry as Entry
 use Rattle.rules.specs.Rule as Rule
@@ -218,7 +219,8 @@ soundWithin limit t =
     headerSound limit t
     && (all (λ i. entrySound (policies t) (entryAt t i)) (entries t)
     && (distinct (sameEntryPrefix t) (entries t)
-    && (all (λ k. ruleSound (ruleAt t k)) (rules t) && (distinct (sameRulePrefix t) (rules t) && all (λ j. policySound (policyAt t j)) (policies t)))))
+    && (all (λ k. ruleSound (ruleAt t k)) (rules t)
+    && (distinct (sameRulePrefix t) (rules t) && all (λ j. policySound (policyAt t j)) (policies t)))))
 
 abbrev pub sound : List ℕ → Bool
 sound t = soundWithin entryLimit t

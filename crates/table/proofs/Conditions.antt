@@ -1,19 +1,12 @@
--- Laws of conditions that hold: of one record, and of every number below a bound.
+-- Laws of conditions that hold of every number below a bound.
 use mathlib.Core.Path.{_≡_, refl}
 use mathlib.Core.Bool.{Bool, true, false, _&&_, and-false}
-use mathlib.Core.List.{List, [], _∷_}
 use Prim.Native.Nat.{ℕ, zero, suc, _+_, _<_}
 use native.Mathlib.Nat.{not-suc-le-zero}
 use native.Mathlib.Numerals.{add-one}
 use native.Mathlib.Omega.{arith}
 use native.Mathlib.Decide.{ℕ-discrete}
-use Rattle.rules.specs.Sound.{every, all, distinct}
-use Rattle.rules.proofs.Conditions.{Holds}
-
--- conditions that hold one by one hold together
-pub holds-every : (bs : List Bool) → Holds bs → every bs ≡ true
-holds-every [] h = refl
-holds-every (b ∷ bs) h = rw (h .0, holds-every bs (h .1)) refl
+use Rattle.rules.specs.Sound.{all, distinct}
 
 module _ (f : ℕ → Bool) where
   pub all-none : all f 0 ≡ true

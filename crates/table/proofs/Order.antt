@@ -32,9 +32,11 @@ module _ (p q : List ℕ) (hp : number p 8 8 < 2 ^ 64) (hq : number q 8 8 < 2 ^ 
   pub eqb-words : eqb (number p 0 16) (number q 0 16) ≡ eqb (number p 0 8) (number q 0 8) && eqb (number p 8 8) (number q 8 8)
   eqb-words = pick (ℕ-discrete (number p 0 8) (number q 0 8))
     where
-      pick : Dec (number p 0 8 ≡ number q 0 8) → eqb (number p 0 16) (number q 0 16) ≡ eqb (number p 0 8) (number q 0 8) && eqb (number p 8 8) (number q 8 8)
+      pick : Dec (number p 0 8 ≡ number q 0 8) → eqb (number p 0 16) (number q 0 16) ≡ eqb (number p 0 8) (number q 0 8)
+          && eqb (number p 8 8) (number q 8 8)
       pick (yes e) =
-          rw (eq-eqb _ _ e) (eqb-iff (number p 0 16) (number q 0 16) (number p 8 8) (number q 8 8) (λ r. omega (arith, words-p, words-q)) (λ r. omega (arith, words-p, words-q)))
+          rw (eq-eqb _ _ e) (eqb-iff (number p 0 16) (number q 0 16) (number p 8 8) (number q 8 8) (λ r. omega (arith, words-p, words-q))
+          (λ r. omega (arith, words-p, words-q)))
       pick (no d) = rw (ne-eqb _ _ d) (ne-eqb (number p 0 16) (number q 0 16) (λ r. d (omega (arith, words-p, words-q))))
 
 ltb-add : (c x y : ℕ) → ltb (c + x) (c + y) ≡ ltb x y
@@ -60,20 +62,24 @@ module _ (b h g l k : ℕ) (hl : l < b) (hk : k < b) where
 
 -- the order of two prefixes with their lengths b and c: by the first words, then by the second, then by the lengths
 module _ (p q : List ℕ) (b c : ℕ) (hp : number p 8 8 < 2 ^ 64) (hq : number q 8 8 < 2 ^ 64) (hb : b < 256) (hc : c < 256) where
-  keys-apart : (number p 0 16 ≡ number q 0 16 → ⊥) → ltb (number p 0 16) (number q 0 16) ≡ ltb (number p 0 16 * 256 + b) (number q 0 16 * 256 + c)
+  keys-apart : (number p 0 16 ≡ number q 0 16 → ⊥)
+      → ltb (number p 0 16) (number q 0 16) ≡ ltb (number p 0 16 * 256 + b) (number q 0 16 * 256 + c)
   keys-apart d = ltb-high 256 (number p 0 16) (number q 0 16) b c hb hc d
 
-  pub by-first : (number p 0 8 ≡ number q 0 8 → ⊥) → ltb (number p 0 8) (number q 0 8) ≡ ltb (number p 0 16 * 256 + b) (number q 0 16 * 256 + c)
+  pub by-first : (number p 0 8 ≡ number q 0 8 → ⊥)
+      → ltb (number p 0 8) (number q 0 8) ≡ ltb (number p 0 16 * 256 + b) (number q 0 16 * 256 + c)
   by-first d =
       ltb-high (2 ^ 64) (number p 0 8) (number q 0 8) (number p 8 8) (number q 8 8) hp hq d
       ∙ rw (← words-p p q hp hq, ← words-q p q hp hq) (keys-apart (λ e. d (omega (arith, words-p p q hp hq, words-q p q hp hq))))
 
-  pub by-second : number p 0 8 ≡ number q 0 8 → (number p 8 8 ≡ number q 8 8 → ⊥) → ltb (number p 8 8) (number q 8 8) ≡ ltb (number p 0 16 * 256 + b) (number q 0 16 * 256 + c)
+  pub by-second : number p 0 8 ≡ number q 0 8 → (number p 8 8 ≡ number q 8 8 → ⊥)
+      → ltb (number p 8 8) (number q 8 8) ≡ ltb (number p 0 16 * 256 + b) (number q 0 16 * 256 + c)
   by-second e d =
       ltb-low (2 ^ 64) (number p 0 8) (number q 0 8) (number p 8 8) (number q 8 8) hp hq e
       ∙ rw (← words-p p q hp hq, ← words-q p q hp hq) (keys-apart (λ f. d (omega (arith, words-p p q hp hq, words-q p q hp hq))))
 
-  pub by-length : number p 0 8 ≡ number q 0 8 → number p 8 8 ≡ number q 8 8 → ltb b c ≡ ltb (number p 0 16 * 256 + b) (number q 0 16 * 256 + c)
+  pub by-length : number p 0 8 ≡ number q 0 8 → number p 8 8 ≡ number q 8 8
+      → ltb b c ≡ ltb (number p 0 16 * 256 + b) (number q 0 16 * 256 + c)
   by-length e f = ltb-low 256 (number p 0 16) (number q 0 16) b c hb hc (omega (arith, words-p p q hp hq, words-q p q hp hq))
 
 -- the same of two entries
@@ -92,19 +98,23 @@ module _ (t : List ℕ) (o : Octets t) (i j : ℕ) where
   pub entry-second : number (prefix (entryAt t i)) 0 8 ≡ number (prefix (entryAt t j)) 0 8
       → (number (prefix (entryAt t i)) 8 8 ≡ number (prefix (entryAt t j)) 8 8 → ⊥)
       → ltb (number (prefix (entryAt t i)) 8 8) (number (prefix (entryAt t j)) 8 8) ≡ ltb (entryKey t i) (entryKey t j)
-  entry-second e d = by-second (prefix (entryAt t i)) (prefix (entryAt t j)) _ _ (small i) (small j) (entry-octets i 1) (entry-octets j 1) e d
+  entry-second e d = by-second (prefix (entryAt t i)) (prefix (entryAt t j)) _ _ (small i) (small j) (entry-octets i 1) (entry-octets j 1)
+      e d
 
   pub entry-length : number (prefix (entryAt t i)) 0 8 ≡ number (prefix (entryAt t j)) 0 8
       → number (prefix (entryAt t i)) 8 8 ≡ number (prefix (entryAt t j)) 8 8
       → ltb (prefixLength (entryAt t i)) (prefixLength (entryAt t j)) ≡ ltb (entryKey t i) (entryKey t j)
-  entry-length e f = by-length (prefix (entryAt t i)) (prefix (entryAt t j)) _ _ (small i) (small j) (entry-octets i 1) (entry-octets j 1) e f
+  entry-length e f = by-length (prefix (entryAt t i)) (prefix (entryAt t j)) _ _ (small i) (small j) (entry-octets i 1) (entry-octets j 1)
+      e f
 
 -- entries with the same prefix and length have the same key
 same-key : (t : List ℕ) (i j : ℕ) → sameEntryPrefix t i j ≡ true → entryKey t i ≡ entryKey t j
 unfolding sameEntryPrefix
 same-key t i j h =
-    let b = eqb-true (prefixLength (entryAt t i)) (prefixLength (entryAt t j)) (and-left _ (eqb (number (prefix (entryAt t i)) 0 16) (number (prefix (entryAt t j)) 0 16)) h) in
-    let p = eqb-true (number (prefix (entryAt t i)) 0 16) (number (prefix (entryAt t j)) 0 16) (and-right (eqb (prefixLength (entryAt t i)) (prefixLength (entryAt t j))) _ h) in
+    let b = eqb-true (prefixLength (entryAt t i)) (prefixLength (entryAt t j))
+    (and-left _ (eqb (number (prefix (entryAt t i)) 0 16) (number (prefix (entryAt t j)) 0 16)) h) in
+    let p = eqb-true (number (prefix (entryAt t i)) 0 16) (number (prefix (entryAt t j)) 0 16)
+    (and-right (eqb (prefixLength (entryAt t i)) (prefixLength (entryAt t j))) _ h) in
     rw (b, p) refl
 
 pub other-key : (t : List ℕ) (i j : ℕ) → entryKey t i < entryKey t j → sameEntryPrefix t i j ≡ false
@@ -118,8 +128,10 @@ other-key t i j l = pick (sameEntryPrefix t i j) refl
 same-rule-key : (t : List ℕ) (i j : ℕ) → sameRulePrefix t i j ≡ true → ruleKey t i ≡ ruleKey t j
 unfolding sameRulePrefix
 same-rule-key t i j h =
-    let b = eqb-true (Rule.prefixLength (ruleAt t i)) (Rule.prefixLength (ruleAt t j)) (and-left _ (eqb (number (Rule.prefix (ruleAt t i)) 0 4) (number (Rule.prefix (ruleAt t j)) 0 4)) h) in
-    let p = eqb-true (number (Rule.prefix (ruleAt t i)) 0 4) (number (Rule.prefix (ruleAt t j)) 0 4) (and-right (eqb (Rule.prefixLength (ruleAt t i)) (Rule.prefixLength (ruleAt t j))) _ h) in
+    let b = eqb-true (Rule.prefixLength (ruleAt t i)) (Rule.prefixLength (ruleAt t j))
+    (and-left _ (eqb (number (Rule.prefix (ruleAt t i)) 0 4) (number (Rule.prefix (ruleAt t j)) 0 4)) h) in
+    let p = eqb-true (number (Rule.prefix (ruleAt t i)) 0 4) (number (Rule.prefix (ruleAt t j)) 0 4)
+    (and-right (eqb (Rule.prefixLength (ruleAt t i)) (Rule.prefixLength (ruleAt t j))) _ h) in
     rw (b, p) refl
 
 pub other-rule-key : (t : List ℕ) (i j : ℕ) → ruleKey t i < ruleKey t j → sameRulePrefix t i j ≡ false

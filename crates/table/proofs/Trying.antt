@@ -1,27 +1,13 @@
--- Laws of the first fault, as code looks for it: among conditions, among faults and among records.
+-- Laws of the first fault, as code looks for it: among faults and among records.
 use mathlib.Core.Path.{_≡_, refl, _∙_}
-use mathlib.Core.Bool.{Bool, false, cond}
+use mathlib.Core.Bool.{false}
 use Prim.Native.Nat.{ℕ, zero, suc, _+_, _<_}
 use native.Mathlib.Nat.{not-suc-le-zero}
 use native.Mathlib.Numerals.{add-one}
 use native.Mathlib.Omega.{arith}
 use native.Mathlib.Decide.{ℕ-discrete}
 use lib.Dec.{eqb}
-use Rattle.rules.specs.Sound.{whereUsed}
 use Rattle.rules.specs.Fault.{told, orElse, firstFault}
-
--- CONDITIONS
-
--- what a function that puts one condition before others says, with what is known of the condition and of the others
-pub behind : (n : ℕ) {b condition : Bool} {r s others : ℕ} → b ≡ condition → r ≡ cond b s n → s ≡ others → r ≡ cond condition others n
-behind n p e q = e ∙ (λ i. cond (p i) (q i) n)
-
--- a condition that is tested as it stands, and one that is tested where a field is used
-pub itself : (condition : Bool) → condition ≡ condition
-itself condition = refl
-
-pub where-used : (used : Bool) {b condition : Bool} → b ≡ condition → whereUsed used b ≡ whereUsed used condition
-where-used used e = λ i. whereUsed used (e i)
 
 -- FAULTS
 

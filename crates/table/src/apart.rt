@@ -8,11 +8,10 @@ ghost use Rattle.rules.specs.Table.{rules, rulesAt, policiesAt};
 ghost use Rattle.rules.specs.Sound.{all, sameEntryPrefix, sameRulePrefix, distinct};
 ghost use Rattle.rules.specs.Fault.{entryRecord, entryRepeated, told, firstFault, entryPrefixesFault, rulePrefixesFault};
 ghost use Rattle.table.specs.Keys.{entryKey, ruleKeyOf};
-use crate::entry;
 use crate::faults;
-use crate::records;
-use crate::rule;
 use octets::numbers;
+use records::entry;
+use records::rule;
 
 // Their conditions' numbers.
 const ENTRY_REPEATED: u8 = 14;

@@ -1,6 +1,5 @@
 // The first condition of soundness that a table breaks, as one number.
 ghost use mathlib.Core.Path.{_≡_};
-ghost use mathlib.Core.Bool.{cond};
 ghost use mathlib.Core.List.{[], _∷_};
 ghost use Prim.Native.Nat.{_<_, _≤_};
 ghost use lib.Dec.{eqb, leb};
@@ -10,11 +9,11 @@ ghost use Rattle.rules.specs.Table.{tableSize};
 ghost use Rattle.rules.specs.Sound.{entryLimit};
 ghost use Rattle.rules.specs.Fault.{firstBroken, headerBroken, told, orElse, entriesFault, rulesFault, policiesFault, fault};
 use crate::apart;
-use crate::entry;
-use crate::policy;
 use crate::quick;
-use crate::records;
-use crate::rule;
+use conditions::entry;
+use conditions::policy;
+use conditions::rule;
+use conditions::unless;
 
 pub(crate) const FORMAT: u8 = 1;
 
@@ -32,14 +31,6 @@ pub const ENTRY: u8 = 2;
 pub const RULE: u8 = 3;
 
 const POLICY: u8 = 4;
-
-// A condition's number where it does not hold, and else what is broken behind it. So a record's conditions are put together from the
-// last to the first.
-pub fn unless(holds: bool, number: u8, behind: u8) -> u8
-    ensures { λ r. ⌜ r ≡ cond holds behind number ⌝ }
-{
-    if holds { behind } else { number }
-}
 
 // A broken condition with the kind and the index of its record.
 pub fn told(kind: u8, index: usize, condition: u8) -> u64

@@ -7,11 +7,10 @@ ghost use Rattle.rules.specs.Octets.{octet};
 ghost use Rattle.rules.specs.Table.{entries, rules, policies, rulesAt, policiesAt, entryAt, ruleAt, policyAt};
 ghost use Rattle.rules.specs.Sound.{all, entrySound, ruleSound, policySound, sound};
 use crate::apart;
-use crate::entry;
 use crate::faults;
-use crate::policy;
-use crate::records;
-use crate::rule;
+use conditions::entry;
+use conditions::policy;
+use conditions::rule;
 
 fn entries_sound(table: &[u8], n: usize, policies: usize) -> bool
     requires { ⌜ 16 + 64 * n ≤ length (now table) ⌝ }
@@ -57,7 +56,8 @@ fn policies_sound(table: &[u8], start: usize, n: usize) -> bool
 
 // The records of a table whose header names n entries, m rules and q policies.
 fn records_sound(table: &[u8], n: usize, m: usize, q: usize) -> bool
-    requires { ⌜ (octet (now table) 0 ≡ 1) × (n ≡ entries (now table)) × (n ≤ 64) × (m ≡ rules (now table)) × (m ≤ 16) × (q ≡ policies (now table)) × (q ≤ 16) ⌝ }
+    requires { ⌜ (octet (now table) 0 ≡ 1) × (n ≡ entries (now table)) × (n ≤ 64) × (m ≡ rules (now table)) × (m ≤ 16)
+        × (q ≡ policies (now table)) × (q ≤ 16) ⌝ }
     ensures { λ r. ⌜ (r ≡ true → sound (now (table .entry)) ≡ true) ⌝ }
 {
     let rules_start = records::HEADER_SIZE + records::ENTRY_SIZE * n;

@@ -12,7 +12,8 @@ returns : tie.Need-returns
 returns c =
     let a = c .before .before .before .before .before .before .before .before .before .before .before .args in
     let e = c .before .before .before .before .before .before .before .copy-octets .ensures in
-    c .before .before .copy-octets2 .ensures ∙ rw (e, sub-zero) (ap (splice (now (a .out)) (a .at)) (splice-part-read _ 0 (now (a .src)) (omega arith)))
+    c .before .before .copy-octets2 .ensures ∙ rw (e, sub-zero)
+    (ap (splice (now (a .out)) (a .at)) (splice-part-read _ 0 (now (a .src)) (omega arith)))
 
 pub copy-block-spec : {M : Type 1} → statement M
 copy-block-spec =

@@ -23,15 +23,20 @@ copy-block-requires : tie.Need-copy-block-requires Inv-loop μ-loop
 copy-block-requires c κs =
     let s = c .before .before .before .before .before .before in
     let l = c .before .before .before .loop in
-    let h : length (take 2048 (drop (l .done) (now (s .args .src)))) ≡ 2048 = length-part (l .done) 2048 (now (s .args .src)) (omega arith) in
+    let h : length (take 2048 (drop (l .done) (now (s .args .src)))) ≡ 2048 =
+    length-part (l .done) 2048 (now (s .args .src)) (omega arith) in
     simp part-count (omega (arith, s), omega arith)
 
 loop-again : tie.Need-loop-again Inv-loop μ-loop
 loop-again c =
     let s = c .before .before .before .before .before .before .before .before .before in
     let l = c .before .before .before .before .before .before .loop in
-    let e = simp part-count at (c .before .before .copy-block .ensures) in
-    (omega arith, chain-part (now (s .args .out)) (now (s .args .src)) (s .args .at) (l .done) 2048 (l .inv .1) e (l .inv .0) (omega (arith, s)), c .before .before .copy-block .kept .0 ∙ l .inv .2)
+    let e = simp part-count at (c .before .before .copy-block .ensures) in (
+      omega arith,
+      chain-part (now (s .args .out)) (now (s .args .src)) (s .args .at) (l .done) 2048 (l .inv .1) e (l .inv .0)
+          (omega (arith, s)),
+      c .before .before .copy-block .kept .0 ∙ l .inv .2,
+    )
 
 copy-block-requires-2 : tie.Need-copy-block-requires-2 Inv-loop μ-loop
 copy-block-requires-2 c κs =
@@ -45,7 +50,8 @@ returns : tie.Need-returns Inv-loop μ-loop
 returns c =
     let s = c .before .before .before .before .before .before .before .before .before in
     let l = c .before .before .before .before .before .before .loop in
-    chain-part (now (s .args .out)) (now (s .args .src)) (s .args .at) (l .done) (length (now (s .args .src)) - l .done) (l .inv .1) (c .before .before .copy-block2 .ensures) (l .inv .0) (omega (arith, s))
+    chain-part (now (s .args .out)) (now (s .args .src)) (s .args .at) (l .done) (length (now (s .args .src)) - l .done) (l .inv .1)
+    (c .before .before .copy-block2 .ensures) (l .inv .0) (omega (arith, s))
     ∙ rw (add-sub-of-le (l .inv .0), take-length)
 
 pub copy-blocks-spec : {M : Type 1} → statement M

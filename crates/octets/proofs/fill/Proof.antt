@@ -21,7 +21,12 @@ abbrev μ-loop : tie.MeasureT-loop
 μ-loop out₀ s at i₀ out i = length out₀ - i
 
 loop-holds : tie.Need-loop-holds Inv-loop μ-loop
-loop-holds c = (omega arith, let a = c .before .before .args in paste-zero (now (a .out)) 0 (window (now (a .s)) (a .at) (length (now (a .out)))), refl)
+loop-holds c = (
+  omega arith,
+  let a = c .before .before .args in
+      paste-zero (now (a .out)) 0 (window (now (a .s)) (a .at) (length (now (a .out)))),
+  refl,
+)
 
 octet-past-requires : tie.Need-octet-past-requires Inv-loop μ-loop
 octet-past-requires c κs = search needs

@@ -5,7 +5,7 @@ use denote.Ref.{now}
 use borrow.Author.Needs.{needs}
 use lib.Dec.{eqb, ltb}
 use Rattle.rules.specs.Octets.{octet}
-use Rattle.table.proofs.Trying.{behind, itself}
+use Rattle.conditions.proofs.Conditions.{behind, itself}
 use Rattle.pair.proofs.between4.Statement.{statement}
 use Rattle.pair.proofs.between4.Tie as tie
 

@@ -31,13 +31,21 @@ returns-3 : tie.Need-returns-3
 unfolding clear
 returns-3 c =
     let k = c .before .before .before .before .before in
-    rw (c .if3 .taken, clear-front _ 8 8 0 (prefix-small k 8 8) (omega arith) (omega arith), mod-eq-of-lt (prefix-small k 0 8), c .before .eight2 .ensures .value) refl
+    rw (
+      c .if3 .taken,
+      clear-front _ 8 8 0 (prefix-small k 8 8) (omega arith) (omega arith),
+      mod-eq-of-lt (prefix-small k 0 8),
+      c .before .eight2 .ensures .value,
+    ) refl
 
 returns-4 : tie.Need-returns-4
 unfolding clear
 returns-4 c =
     let k = c .before .before .before .before .before .before in
-    rw (clear-front _ 8 8 (k .before .args .bits) (prefix-small k 8 8) (omega arith) (omega arith), ← c .before .before .eight2 .ensures .value) (c .ends-clear2 .ensures)
+    rw (
+      clear-front _ 8 8 (k .before .args .bits) (prefix-small k 8 8) (omega arith) (omega arith),
+      ← c .before .before .eight2 .ensures .value,
+    ) (c .ends-clear2 .ensures)
 
 pub clear16-spec : {M : Type 1} → statement M
 clear16-spec =

@@ -24,7 +24,11 @@ returns-2 : tie.Need-returns-2
 unfolding under firstBits
 returns-2 c =
     let k = c .before .before .before .before in
-    rw (under-front _ _ 8 8 (k .before .before .args .bits) (address-small k 8 8) (prefix-small k 8 8) (search needs), c .before .before .before .eight .ensures .value, c .before .before .eight2 .ensures .value) refl
+    rw (
+      under-front _ _ 8 8 (k .before .before .args .bits) (address-small k 8 8) (prefix-small k 8 8) (search needs),
+      c .before .before .before .eight .ensures .value,
+      c .before .before .eight2 .ensures .value,
+    ) refl
 
 returns-3 : tie.Need-returns-3
 returns-3 c =

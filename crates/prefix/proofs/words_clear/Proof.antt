@@ -9,7 +9,8 @@ use Rattle.prefix.proofs.words_clear.Statement.{statement}
 use Rattle.prefix.proofs.words_clear.Tie as tie
 
 returns : tie.Need-returns
-returns c = let a = c .before .before .args in let e : 128 - a .bits ≡ 0 = omega arith in rw e (sym (eq-eqb _ 0 (mod-one (a .high * 2 ^ 64 + a .low))))
+returns c = let a = c .before .before .args in let e : 128 - a .bits ≡ 0 = omega arith in
+    rw e (sym (eq-eqb _ 0 (mod-one (a .high * 2 ^ 64 + a .low))))
 
 returns-2 : tie.Need-returns-2
 returns-2 c =
@@ -23,12 +24,14 @@ returns-4 : tie.Need-returns-4
 returns-4 c =
     let a = c .before .before .before .args in
     let e : 64 - a .bits ≡ 0 = omega arith in
-    sym (second-clear (a .high) (a .low) (a .bits) (omega arith) (omega arith) (c .before .if3 .left) ∙ rw e (eq-eqb _ 0 (mod-one (a .high))))
+    sym (second-clear (a .high) (a .low) (a .bits) (omega arith) (omega arith) (c .before .if3 .left)
+    ∙ rw e (eq-eqb _ 0 (mod-one (a .high))))
 
 returns-5 : tie.Need-returns-5
 returns-5 c =
     let a = c .before .before .before .args in
-    dropped (a .high) (a .bits) (64 - a .bits) (omega arith) ∙ sym (second-clear (a .high) (a .low) (a .bits) (omega arith) (omega arith) (c .before .if3 .left))
+    dropped (a .high) (a .bits) (64 - a .bits) (omega arith)
+    ∙ sym (second-clear (a .high) (a .low) (a .bits) (omega arith) (omega arith) (c .before .if3 .left))
 
 pub words-clear-spec : {M : Type 1} → statement M
 words-clear-spec =

@@ -5,7 +5,7 @@ use native.Mathlib.Omega.{arith}
 use borrow.Author.Needs.{needs}
 use Rattle.rules.specs.Table.{entries}
 use Rattle.rules.specs.Match.{entryMatches, entryBits, longest, matchEntry}
-use Rattle.table.proofs.Longest.{longest-none, longest-hit, longest-miss, found-below}
+use Rattle.matching.proofs.Longest.{longest-none, longest-hit, longest-miss, found-below}
 use Rattle.reach.proofs.find.Statement.{statement}
 use Rattle.reach.proofs.find.Tie as tie
 

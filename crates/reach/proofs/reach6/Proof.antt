@@ -5,7 +5,7 @@ use native.Mathlib.Omega.{arith}
 use borrow.Author.Needs.{needs}
 use Rattle.rules.specs.Table.{entries}
 use Rattle.rules.specs.Match.{entryBits, longest}
-use Rattle.table.proofs.Longest.{longest-none, longest-hit, longest-miss, found-below}
+use Rattle.matching.proofs.Longest.{longest-none, longest-hit, longest-miss, found-below}
 use Rattle.reach.specs.Reach.{entryReached6, reach6}
 use Rattle.reach.proofs.reach6.Statement.{statement}
 use Rattle.reach.proofs.reach6.Tie as tie

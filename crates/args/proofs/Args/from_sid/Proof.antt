@@ -14,7 +14,14 @@ returns c =
     let c₂ = c₃ .before .before in
     let c₁ = c₂ .before .before in
     let c₀ = c₁ .before .before in
-    rw (c .octet-at5 .ensures, c₄ .octet-at4 .ensures, c₃ .octet-at3 .ensures, c₂ .octet-at2 .ensures, c₁ .octet-at .ensures, c₀ .octet-of .ensures)
+    rw (
+      c .octet-at5 .ensures,
+      c₄ .octet-at4 .ensures,
+      c₃ .octet-at3 .ensures,
+      c₂ .octet-at2 .ensures,
+      c₁ .octet-at .ensures,
+      c₀ .octet-of .ensures,
+    )
     (simp towards-suc (args-cut _ (c₀ .before .args .start)))
 
 pub from-sid-spec : {M : Type 1} → statement M

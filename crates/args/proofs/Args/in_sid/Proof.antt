@@ -16,7 +16,8 @@ returns c =
     let l : length (c .octets .result) ≡ 5 = search needs in
     let n : length (s .args .sid) ≡ 16 = search needs in
     rw (c .before .octet-of .ensures)
-    (simp towards-suc (args-stored (s .args .sid) (c .octets .result) (s .args .start) (value (s .args .self)) (c .octets .ensures) l (omega arith)))
+    (simp towards-suc (args-stored (s .args .sid) (c .octets .result) (s .args .start) (value (s .args .self)) (c .octets .ensures) l
+    (omega arith)))
 
 pub in-sid-spec : {M : Type 1} → statement M
 in-sid-spec =

@@ -36,7 +36,8 @@ loop-again c =
     (omega arith, omega arith, ascends-more _ _ (other-key t) i (k .loop .inv .0) (k .loop .inv .2) h)
 
 returns-3 : tie.Need-returns-3 Inv-loop μ-loop
-returns-3 c = λ q. let e : c .before .loop .i ≡ c .before .before .before .before .args .n = omega arith in rw (← e) (c .before .loop .inv .2 .apart)
+returns-3 c = λ q. let e : c .before .loop .i ≡ c .before .before .before .before .args .n = omega arith in
+    rw (← e) (c .before .loop .inv .2 .apart)
 
 pub ascending-spec : {M : Type 1} → statement M
 ascending-spec =

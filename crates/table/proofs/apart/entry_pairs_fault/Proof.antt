@@ -29,7 +29,8 @@ returns c =
     let l = b .before .before .before in
     let t : List ℕ = l .before .before .args .table .now in
     let j : ℕ = l .loop .j in
-    let e : faultAt t j ≡ told entryRecord j 14 = ap (λ (b : Bool). told entryRecord j (cond b 0 14)) (sym (b .before .entry-fresh .ensures) ∙ not-true _ (b .if1 .taken)) in
+    let e : faultAt t j ≡ told entryRecord j 14 =
+    ap (λ (b : Bool). told entryRecord j (cond b 0 14)) (sym (b .before .entry-fresh .ensures) ∙ not-true _ (b .if1 .taken)) in
     c .told .ensures ∙ sym e ∙ sym (first-found (faultAt t) _ j (omega arith) (l .loop .inv .1) (rw e (none-told entryRecord j 14)))
 
 loop-again : tie.Need-loop-again Inv-loop μ-loop
@@ -37,7 +38,8 @@ loop-again c =
     let l = c .before .before .before in
     let t : List ℕ = l .before .before .args .table .now in
     let j : ℕ = l .loop .j in
-    let e : faultAt t j ≡ told entryRecord j 0 = ap (λ (b : Bool). told entryRecord j (cond b 0 14)) (sym (c .before .entry-fresh .ensures) ∙ not-false _ (c .if1 .left)) in
+    let e : faultAt t j ≡ told entryRecord j 0 = ap (λ (b : Bool). told entryRecord j (cond b 0 14))
+    (sym (c .before .entry-fresh .ensures) ∙ not-false _ (c .if1 .left)) in
     (search needs, first-more (faultAt t) j (l .loop .inv .1) (e ∙ told-none entryRecord j))
 
 returns-2 : tie.Need-returns-2 Inv-loop μ-loop

@@ -20,7 +20,8 @@ returns c =
     let j : ℕ = e .before .before .args .j in
     let o : Octets t = λ k. e .before .shared-slice-known .given k .fits in
     let ep : p .prefix-of .result .now ≡ prefix (entryAt t i) = p .prefix-of .ensures .same ∙ ap prefix (e .entry-at .ensures .same) in
-    let eq : c₁ .before .prefix-of2 .result .now ≡ prefix (entryAt t j) = c₁ .before .prefix-of2 .ensures .same ∙ ap prefix (p .before .entry-at2 .ensures .same) in
+    let eq : c₁ .before .prefix-of2 .result .now ≡ prefix (entryAt t j) =
+    c₁ .before .prefix-of2 .ensures .same ∙ ap prefix (p .before .entry-at2 .ensures .same) in
     let a : c₁ .eight .result ≡ number (prefix (entryAt t i)) 0 8 = c₁ .eight .ensures .value ∙ ap (λ (s : List ℕ). number s 0 8) ep in
     let b : c₂ .eight2 .result ≡ number (prefix (entryAt t j)) 0 8 = c₂ .eight2 .ensures .value ∙ ap (λ (s : List ℕ). number s 0 8) eq in
     rw (a, b) (entry-first t o i j (λ q. c .if1 .taken (a ∙ q ∙ sym b)))
@@ -36,11 +37,14 @@ returns-2 c =
     let j : ℕ = e .before .before .args .j in
     let o : Octets t = λ k. e .before .shared-slice-known .given k .fits in
     let ep : p .prefix-of .result .now ≡ prefix (entryAt t i) = p .prefix-of .ensures .same ∙ ap prefix (e .entry-at .ensures .same) in
-    let eq : c₁ .before .prefix-of2 .result .now ≡ prefix (entryAt t j) = c₁ .before .prefix-of2 .ensures .same ∙ ap prefix (p .before .entry-at2 .ensures .same) in
+    let eq : c₁ .before .prefix-of2 .result .now ≡ prefix (entryAt t j) =
+    c₁ .before .prefix-of2 .ensures .same ∙ ap prefix (p .before .entry-at2 .ensures .same) in
     let a : c₁ .eight .result ≡ number (prefix (entryAt t i)) 0 8 = c₁ .eight .ensures .value ∙ ap (λ (s : List ℕ). number s 0 8) ep in
     let b : c₂ .eight2 .result ≡ number (prefix (entryAt t j)) 0 8 = c₂ .eight2 .ensures .value ∙ ap (λ (s : List ℕ). number s 0 8) eq in
-    let f : c .before .before .eight3 .result ≡ number (prefix (entryAt t i)) 8 8 = c .before .before .eight3 .ensures .value ∙ ap (λ (s : List ℕ). number s 8 8) ep in
-    let g : c .before .eight4 .result ≡ number (prefix (entryAt t j)) 8 8 = c .before .eight4 .ensures .value ∙ ap (λ (s : List ℕ). number s 8 8) eq in
+    let f : c .before .before .eight3 .result ≡ number (prefix (entryAt t i)) 8 8 =
+    c .before .before .eight3 .ensures .value ∙ ap (λ (s : List ℕ). number s 8 8) ep in
+    let g : c .before .eight4 .result ≡ number (prefix (entryAt t j)) 8 8 =
+    c .before .eight4 .ensures .value ∙ ap (λ (s : List ℕ). number s 8 8) eq in
     rw (f, g) (entry-second t o i j (sym a ∙ c .before .before .before .if1 .left ∙ b) (λ q. c .if2 .taken (f ∙ q ∙ sym g)))
 
 returns-3 : tie.Need-returns-3
@@ -54,11 +58,14 @@ returns-3 c =
     let j : ℕ = e .before .before .args .j in
     let o : Octets t = λ k. e .before .shared-slice-known .given k .fits in
     let ep : p .prefix-of .result .now ≡ prefix (entryAt t i) = p .prefix-of .ensures .same ∙ ap prefix (e .entry-at .ensures .same) in
-    let eq : c₁ .before .prefix-of2 .result .now ≡ prefix (entryAt t j) = c₁ .before .prefix-of2 .ensures .same ∙ ap prefix (p .before .entry-at2 .ensures .same) in
+    let eq : c₁ .before .prefix-of2 .result .now ≡ prefix (entryAt t j) =
+    c₁ .before .prefix-of2 .ensures .same ∙ ap prefix (p .before .entry-at2 .ensures .same) in
     let a : c₁ .eight .result ≡ number (prefix (entryAt t i)) 0 8 = c₁ .eight .ensures .value ∙ ap (λ (s : List ℕ). number s 0 8) ep in
     let b : c₂ .eight2 .result ≡ number (prefix (entryAt t j)) 0 8 = c₂ .eight2 .ensures .value ∙ ap (λ (s : List ℕ). number s 0 8) eq in
-    let f : c .before .before .before .before .eight3 .result ≡ number (prefix (entryAt t i)) 8 8 = c .before .before .before .before .eight3 .ensures .value ∙ ap (λ (s : List ℕ). number s 8 8) ep in
-    let g : c .before .before .before .eight4 .result ≡ number (prefix (entryAt t j)) 8 8 = c .before .before .before .eight4 .ensures .value ∙ ap (λ (s : List ℕ). number s 8 8) eq in
+    let f : c .before .before .before .before .eight3 .result ≡ number (prefix (entryAt t i)) 8 8 =
+    c .before .before .before .before .eight3 .ensures .value ∙ ap (λ (s : List ℕ). number s 8 8) ep in
+    let g : c .before .before .before .eight4 .result ≡ number (prefix (entryAt t j)) 8 8 =
+    c .before .before .before .eight4 .ensures .value ∙ ap (λ (s : List ℕ). number s 8 8) eq in
     rw (e .entry-at .ensures .same, p .before .entry-at2 .ensures .same)
     (entry-length t o i j (sym a ∙ c .before .before .before .before .before .if1 .left ∙ b) (sym f ∙ c .before .before .if2 .left ∙ g))
 

@@ -18,10 +18,16 @@ loop-holds : tie.Need-loop-holds Inv-loop μ-loop
 loop-holds c = (search needs, all-none _)
 
 returns : tie.Need-returns Inv-loop μ-loop
-returns c = sym (all-fails _ _ (c .before .before .before .loop .i) (search needs) (ap not (sym (c .before .same-rule-prefix .ensures) ∙ c .if1 .taken)))
+returns c =
+    sym (all-fails _ _ (c .before .before .before .loop .i) (search needs)
+    (ap not (sym (c .before .same-rule-prefix .ensures) ∙ c .if1 .taken)))
 
 loop-again : tie.Need-loop-again Inv-loop μ-loop
-loop-again c = (search needs, all-more _ (c .before .before .before .loop .i) (c .before .before .before .loop .inv .1) (ap not (sym (c .before .same-rule-prefix .ensures) ∙ c .if1 .left)))
+loop-again c = (
+  search needs,
+  all-more _ (c .before .before .before .loop .i) (c .before .before .before .loop .inv .1)
+      (ap not (sym (c .before .same-rule-prefix .ensures) ∙ c .if1 .left)),
+)
 
 returns-2 : tie.Need-returns-2 Inv-loop μ-loop
 returns-2 c = sym (all-done _ _ _ (c .before .loop .inv .1) (omega arith))

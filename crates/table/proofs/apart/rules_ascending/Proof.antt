@@ -30,11 +30,13 @@ loop-again c =
     let t : List ℕ = k .before .before .before .args .table .now in
     let i : ℕ = k .loop .i in
     let h : ruleKey t (i - 1) < ruleKey t i =
-    ltb-true _ _ (rw (← c .before .before .before .rule-from .ensures .same, ← c .before .before .rule-from2 .ensures .same) (sym (c .before .rule-precedes .ensures) ∙ not-false _ (c .if2 .left))) in
+    ltb-true _ _ (rw (← c .before .before .before .rule-from .ensures .same, ← c .before .before .rule-from2 .ensures .same)
+    (sym (c .before .rule-precedes .ensures) ∙ not-false _ (c .if2 .left))) in
     (omega arith, omega arith, ascends-more _ _ (other-rule-key t) i (k .loop .inv .0) (k .loop .inv .2) h)
 
 returns-3 : tie.Need-returns-3 Inv-loop μ-loop
-returns-3 c = λ q. let e : c .before .loop .i ≡ c .before .before .before .before .args .n = omega arith in rw (← e) (c .before .loop .inv .2 .apart)
+returns-3 c = λ q. let e : c .before .loop .i ≡ c .before .before .before .before .args .n = omega arith in
+    rw (← e) (c .before .loop .inv .2 .apart)
 
 pub rules-ascending-spec : {M : Type 1} → statement M
 rules-ascending-spec =

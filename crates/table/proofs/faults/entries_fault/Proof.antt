@@ -31,8 +31,10 @@ returns c =
     let l = b .before .before .before in
     let t : List ℕ = l .before .before .before .before .args .table .now in
     let i : ℕ = l .loop .i in
-    let e : b .broken .result ≡ entryBroken (policies t) (entryAt t i) = rw (b .broken .ensures, b .before .entry-at .ensures .same, l .before .policies .ensures .value) refl in
-    let found : eqb (faultAt t i) 0 ≡ false = none-told entryRecord i (entryBroken (policies t) (entryAt t i)) ∙ ne-eqb _ _ (λ z. c .before .if1 .taken (e ∙ z)) in
+    let e : b .broken .result ≡ entryBroken (policies t) (entryAt t i) =
+    rw (b .broken .ensures, b .before .entry-at .ensures .same, l .before .policies .ensures .value) refl in
+    let found : eqb (faultAt t i) 0 ≡ false = none-told entryRecord i (entryBroken (policies t) (entryAt t i))
+    ∙ ne-eqb _ _ (λ z. c .before .if1 .taken (e ∙ z)) in
     c .told .ensures ∙ ap (told entryRecord i) e ∙ sym (first-found (faultAt t) _ i (omega arith) (l .loop .inv .1) found)
 
 loop-again : tie.Need-loop-again Inv-loop μ-loop
@@ -41,7 +43,8 @@ loop-again c =
     let l = b .before .before .before in
     let t : List ℕ = l .before .before .before .before .args .table .now in
     let i : ℕ = l .loop .i in
-    let e : b .broken .result ≡ entryBroken (policies t) (entryAt t i) = rw (b .broken .ensures, b .before .entry-at .ensures .same, l .before .policies .ensures .value) refl in
+    let e : b .broken .result ≡ entryBroken (policies t) (entryAt t i) =
+    rw (b .broken .ensures, b .before .entry-at .ensures .same, l .before .policies .ensures .value) refl in
     (search needs, first-more (faultAt t) i (l .loop .inv .1) (ap (told entryRecord i) (sym e ∙ c .if1 .left) ∙ told-none entryRecord i))
 
 returns-2 : tie.Need-returns-2 Inv-loop μ-loop

@@ -24,7 +24,14 @@ returns c =
     refl
 
 returns-2 : tie.Need-returns-2
-returns-2 c = rw (c .header-conditions2 .ensures, c .before .size .ensures, c .before .before .policies .ensures .value, c .before .before .before .rules .ensures .value, c .before .before .before .before .entries .ensures .value) refl
+returns-2 c =
+    rw (
+      c .header-conditions2 .ensures,
+      c .before .size .ensures,
+      c .before .before .policies .ensures .value,
+      c .before .before .before .rules .ensures .value,
+      c .before .before .before .before .entries .ensures .value,
+    ) refl
 
 pub header-broken-spec : {M : Type 1} → statement M
 header-broken-spec =

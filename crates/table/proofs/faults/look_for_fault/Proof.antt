@@ -6,7 +6,8 @@ use borrow.Author.Tests.{eq-eqb, ne-eqb}
 use lib.ListN.{length}
 use Rattle.rules.specs.Table.{tableSize}
 use Rattle.rules.specs.Sound.{entryLimit}
-use Rattle.rules.specs.Fault.{headerRecord, headerBroken, headerFault, entriesFault, entryPrefixesFault, rulesFault, rulePrefixesFault, policiesFault, told, orElse, faultWithin, fault}
+use Rattle.rules.specs.Fault.{headerRecord, headerBroken, headerFault, entriesFault, entryPrefixesFault, rulesFault, rulePrefixesFault}
+use Rattle.rules.specs.Fault.{policiesFault, told, orElse, faultWithin, fault}
 use Rattle.rules.proofs.Faults.{none-told, header-none}
 use Rattle.table.proofs.Bounds.{header-size}
 use Rattle.table.proofs.Trying.{next, else-zero, else-fault, told-none}
@@ -21,13 +22,16 @@ unbroken c = sym (c .before .header-broken .ensures) ∙ c .if1 .left
 size : (c : tie.Else1) → length (c .before .before .before .args .table .now) ≡ tableSize (c .before .before .before .args .table .now)
 size c =
     let t : List ℕ = c .before .before .before .args .table .now in
-    header-size entryLimit t (sym (header-none entryLimit t) ∙ none-told headerRecord 0 (headerBroken entryLimit t) ∙ eq-eqb (headerBroken entryLimit t) 0 (unbroken c))
+    header-size entryLimit t (sym (header-none entryLimit t) ∙ none-told headerRecord 0 (headerBroken entryLimit t)
+    ∙ eq-eqb (headerBroken entryLimit t) 0 (unbroken c))
 
 headerless : (t : List ℕ) → headerBroken entryLimit t ≡ 0
-    → fault t ≡ orElse (entriesFault t) (orElse (entryPrefixesFault t) (orElse (rulesFault t) (orElse (rulePrefixesFault t) (policiesFault t))))
+    → fault t ≡ orElse (entriesFault t) (orElse (entryPrefixesFault t)
+    (orElse (rulesFault t) (orElse (rulePrefixesFault t) (policiesFault t))))
 unfolding faultWithin
 headerless t e =
-    let rest : ℕ = orElse (entriesFault t) (orElse (entryPrefixesFault t) (orElse (rulesFault t) (orElse (rulePrefixesFault t) (policiesFault t)))) in
+    let rest : ℕ =
+    orElse (entriesFault t) (orElse (entryPrefixesFault t) (orElse (rulesFault t) (orElse (rulePrefixesFault t) (policiesFault t)))) in
     ap (λ (f : ℕ). orElse f rest) (ap (told headerRecord 0) e ∙ told-none headerRecord 0) ∙ else-zero rest
 
 returns : tie.Need-returns
@@ -37,7 +41,8 @@ returns c =
     let t : List ℕ = h .before .before .args .table .now in
     let broken : headerBroken entryLimit t ≡ 0 → ⊥ = λ e. c .before .if1 .taken (h .header-broken .ensures ∙ e) in
     c .told .ensures ∙ ap (told headerRecord 0) (h .header-broken .ensures)
-    ∙ sym (else-fault (headerFault entryLimit t) _ (none-told headerRecord 0 (headerBroken entryLimit t) ∙ ne-eqb (headerBroken entryLimit t) 0 broken))
+    ∙ sym (else-fault (headerFault entryLimit t) _
+    (none-told headerRecord 0 (headerBroken entryLimit t) ∙ ne-eqb (headerBroken entryLimit t) 0 broken))
 
 entries-fault-requires : tie.Need-entries-fault-requires
 entries-fault-requires c κs = omega (arith, size c)

@@ -32,7 +32,8 @@ returns c =
     let t : List ℕ = l .before .before .before .args .table .now in
     let j : ℕ = l .loop .j in
     let e : b .broken .result ≡ policyBroken (policyAt t j) = rw (b .broken .ensures, b .before .policy-at .ensures .same) refl in
-    let found : eqb (faultAt t j) 0 ≡ false = none-told policyRecord j (policyBroken (policyAt t j)) ∙ ne-eqb _ _ (λ z. c .before .if1 .taken (e ∙ z)) in
+    let found : eqb (faultAt t j) 0 ≡ false = none-told policyRecord j (policyBroken (policyAt t j))
+    ∙ ne-eqb _ _ (λ z. c .before .if1 .taken (e ∙ z)) in
     c .told .ensures ∙ ap (told policyRecord j) e ∙ sym (first-found (faultAt t) _ j (omega arith) (l .loop .inv .1) found)
 
 loop-again : tie.Need-loop-again Inv-loop μ-loop

@@ -32,7 +32,8 @@ returns c =
     let t : List ℕ = l .before .before .before .args .table .now in
     let k : ℕ = l .loop .k in
     let e : b .broken .result ≡ ruleBroken (ruleAt t k) = rw (b .broken .ensures, b .before .rule-at .ensures .same) refl in
-    let found : eqb (faultAt t k) 0 ≡ false = none-told ruleRecord k (ruleBroken (ruleAt t k)) ∙ ne-eqb _ _ (λ z. c .before .if1 .taken (e ∙ z)) in
+    let found : eqb (faultAt t k) 0 ≡ false = none-told ruleRecord k (ruleBroken (ruleAt t k))
+    ∙ ne-eqb _ _ (λ z. c .before .if1 .taken (e ∙ z)) in
     c .told .ensures ∙ ap (told ruleRecord k) e ∙ sym (first-found (faultAt t) _ k (omega arith) (l .loop .inv .1) found)
 
 loop-again : tie.Need-loop-again Inv-loop μ-loop

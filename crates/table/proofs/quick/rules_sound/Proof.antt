@@ -21,8 +21,11 @@ loop-holds c = (search needs, all-none _)
 
 loop-again : tie.Need-loop-again Inv-loop μ-loop
 loop-again c =
-    let k = c .before .before .before .before in
-    (search needs, all-more _ (k .loop .k) (k .loop .inv .1) (rw (← c .before .before .rule-from .ensures .same) (c .before .surely-sound .ensures (not-false _ (c .if1 .left)))))
+    let k = c .before .before .before .before in (
+      search needs,
+      all-more _ (k .loop .k) (k .loop .inv .1)
+          (rw (← c .before .before .rule-from .ensures .same) (c .before .surely-sound .ensures (not-false _ (c .if1 .left)))),
+    )
 
 returns-2 : tie.Need-returns-2 Inv-loop μ-loop
 returns-2 c = λ q. all-done _ _ _ (c .before .loop .inv .1) (omega arith)
