@@ -10,7 +10,6 @@ use borrow.Author.Tests.{ltb-false, eqb-true}
 use Rattle.rules.specs.Octets.{window}
 use Rattle.rules.specs.Assigned.{downlink, uplink}
 use Rattle.rules.specs.Entry as Entry
-use Rattle.rules.specs.Ipv6 as Ipv6
 use Rattle.rules.specs.Srh as Srh
 use Rattle.rules.specs.Srh.{segment}
 use Rattle.rules.specs.Args.{argsAt}

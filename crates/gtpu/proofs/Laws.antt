@@ -13,8 +13,7 @@ use Rattle.rules.specs.Answer.{Row, row, any, verdict, first}
 use Rattle.rules.specs.Args.{Args}
 use Rattle.rules.specs.Gtpu as Gtpu
 use Rattle.rules.specs.Gtpu.{udp, flowOctet, gtpuFlags, datagramBefore, datagramOctets}
-use Rattle.rules.specs.Datagram.{datagram, badUdp, badGtpu, messageRows}
-use Rattle.rules.specs.declared.Datagram.{Datagram}
+use Rattle.rules.specs.Datagram.{datagram}
 use Rattle.rules.specs.declared.Refusal.{Refusal}
 use Rattle.rules.specs.declared.Verdict.{Verdict}
 use Rattle.rules.specs.declared.Verdict.the-variants.{Pass, Refuse}
@@ -75,11 +74,6 @@ module _ (r : Row) (rs : List Row) (v : Verdict) (judged : v ≡ verdict (r ∷ 
 
   pub alone-passed : (w : Verdict) → v ≡ Pass → w ≡ verdict rs → w ≡ verdict (r ∷ rs)
   alone-passed w e p = p ∙ sym (alone ∙ ap (λ (v : Verdict). first v (verdict rs)) e)
-
--- rows 9 and 10, which are judged alone
-pub message-verdict : (g : Datagram) → verdict (messageRows g) ≡ first (verdict (row (badUdp g) 9 ∷ [])) (verdict (row (badGtpu g) 10 ∷ []))
-unfolding messageRows
-message-verdict g = verdict-append (row (badUdp g) 9 ∷ []) (row (badGtpu g) 10 ∷ [])
 
 -- WRITING
 

@@ -16,8 +16,8 @@ use Rattle.rules.specs.Table.{addressesAt}
 use Rattle.rules.specs.Args.{Args, withArgs}
 use Rattle.rules.specs.Ipv6.{ipv6}
 use Rattle.rules.specs.Answer.{verdict}
-use Rattle.rules.specs.Header4.{header4, WellFormed4}
-use Rattle.rules.specs.Datagram.{datagram, messageRows, gPduRows, innerRows}
+use Rattle.rules.specs.Header4.{WellFormed4}
+use Rattle.rules.specs.Datagram.{messageRows, gPduRows, innerRows}
 use Rattle.rules.specs.Session.{innerProtocol}
 use Rattle.rules.specs.Srv6.{pastWaypointsPayload}
 use Rattle.rules.specs.Carried.{carriedBy, carried4}
@@ -27,7 +27,6 @@ use Rattle.rules.specs.Plan.{headAlong, innerAt, d4Head, d4Plan}
 use Rattle.rules.specs.declared.Header4.{Header4}
 use Rattle.rules.specs.declared.Datagram.{Datagram}
 use Rattle.rules.specs.declared.Verdict.{Verdict}
-use Rattle.rules.specs.declared.Verdict.the-variants.{Pass}
 use Rattle.rules.proofs.Paths.{addressesAt-length}
 use Rattle.rules.proofs.Plans.{inner-4}
 use Rattle.octets.specs.Run.{Run}

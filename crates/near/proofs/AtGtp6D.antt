@@ -11,8 +11,8 @@ use Rattle.rules.specs.Ipv6 as Ipv6
 use Rattle.rules.specs.Gtpu as Gtpu
 use Rattle.rules.specs.Args.{Args}
 use Rattle.rules.specs.Answer.{verdict}
-use Rattle.rules.specs.Header.{header, WellFormed}
-use Rattle.rules.specs.Datagram.{datagram, messageRows, gPduRows, innerRows}
+use Rattle.rules.specs.Header.{header}
+use Rattle.rules.specs.Datagram.{messageRows, gPduRows, innerRows}
 use Rattle.rules.specs.Session.{innerProtocol}
 use Rattle.rules.specs.Carried.{carriedBy, carried6, datagramIn6}
 use Rattle.rules.specs.Gtp6D.{gtp6Rows, rowsGtp6D}
@@ -21,7 +21,6 @@ use Rattle.rules.specs.Plan.{tailOf, headAlong, gtp6DPath, gtp6DPlan, innerAt}
 use Rattle.rules.specs.declared.Header.{Header}
 use Rattle.rules.specs.declared.Datagram.{Datagram}
 use Rattle.rules.specs.declared.Verdict.{Verdict}
-use Rattle.rules.specs.declared.Verdict.the-variants.{Pass}
 use Rattle.rules.proofs.Windows.{window-length}
 use Rattle.rules.proofs.Paths.{addressesAt-length}
 use Rattle.rules.proofs.Sids.{withArgs-length}

@@ -1,12 +1,12 @@
--- The laws of `splice`: its length, pieces one after the other, a piece within a part that is lent, and what is read from it.
+-- The laws of `splice`: its length, pieces one after the other, and what is read from it.
 use mathlib.Core.Path.{_≡_, refl, sym, ap, _∙_}
 use mathlib.Core.List.{List, [], _++_, append-assoc, append-nil}
-use Prim.Native.Nat.{ℕ, _+_, _-_, _≤_, _<_}
+use Prim.Native.Nat.{ℕ, _+_, _-_, _≤_}
 use native.Mathlib.Nat.{add-zero, zero-add, add-assoc, add-sub-of-le, le-refl, add-sub-cancel-left}
 use native.Mathlib.Omega.{arith}
-use lib.ListN.{length, take, drop, getD, length-append, length-drop, take-append-drop, drop-of-length-le, List·getD-append}
-use lib.Seq.{take-all, sets, sets-eq, paste, take-length, length-take-le, take-at, drop-at, drop-append-add, drop-drop, take-add}
-use lib.Seq.{getD-append-add, getD-drop, getD-take, take-take, take-append-le, drop-append-le}
+use lib.ListN.{length, take, drop, length-append, length-drop, take-append-drop, drop-of-length-le}
+use lib.Seq.{take-all, paste, take-length, length-take-le, take-at, drop-at, drop-append-add, drop-drop, take-add}
+use lib.Seq.{take-take, take-append-le, drop-append-le}
 use Rattle.rules.specs.Octets.{splice}
 use Rattle.octets.specs.Run.{Run}
 
@@ -66,67 +66,10 @@ chain-part o s a d n e f h l =
     chain o a (take d s) (take n (drop d s)) e f (ap (λ (k : ℕ). a + k) (sym (length-take-le d s h))) l
     ∙ ap (splice o a) (sym (take-add d n s))
 
--- a run of stores
-pub sets-splice : (x o : List ℕ) (a : ℕ) → a + length x ≤ length o → sets o a x ≡ splice o a x
-unfolding splice
-sets-splice x o a h = sets-eq x o a h
-
 -- a copy that has come to its end
 pub paste-splice : (o : List ℕ) (a : ℕ) (x : List ℕ) → paste o a x (length x) ≡ splice o a x
 unfolding splice
 paste-splice o a x = ap (λ (t : List ℕ). take a o ++ t ++ drop (a + length x) o) (take-length x)
-
--- a part that is lent, of k elements from a on, and comes back with x at b in it
-pub splice-part : (o : List ℕ) (a k b : ℕ) (x : List ℕ) → a + k ≤ length o → b + length x ≤ k
-    → take a o ++ (splice (take k (drop a o)) b x ++ drop k (drop a o)) ≡ splice o (a + b) x
-unfolding splice
-splice-part o a k b x h n =
-    let t : List ℕ = drop a o in
-    let m : ℕ = b + length x in
-    let hb : b ≤ k = omega arith in
-    let lt : length (take k t) ≡ k = length-take-le k t (simp length-drop (omega arith)) in
-    -- within the part
-    let e₁ : take b (take k t) ≡ take b t = take-take b k t hb in
-    let e₂ : drop m (take k t) ++ drop k t ≡ drop m t =
-    sym (drop-append-le m (take k t) (drop k t) (rw lt n)) ∙ ap (λ (l : List ℕ). drop m l) (take-append-drop k t) in
-    ap (λ (l : List ℕ). take a o ++ l)
-    (append-assoc (take b (take k t) ++ x) (drop m (take k t)) (drop k t)
-    ∙ ap (λ (l : List ℕ). take b (take k t) ++ x ++ l) e₂
-    ∙ ap (λ (l : List ℕ). l ++ x ++ drop m t) e₁)
-    ∙ sym (append-assoc (take a o) (take b t ++ x) (drop m t))
-    ∙ ap (λ (l : List ℕ). l ++ drop m t) (sym (append-assoc (take a o) (take b t) x))
-    ∙ ap (λ (l : List ℕ). l ++ x ++ drop m t) (sym (take-add a b o))
-    ∙ ap (λ (l : List ℕ). take (a + b) o ++ x ++ l) (drop-drop m a o ∙ ap (λ (j : ℕ). drop j o) (sym (add-assoc a b (length x))))
-
--- the part is all that stands after a
-pub splice-tail : (o : List ℕ) (a b : ℕ) (x : List ℕ) → a + b + length x ≤ length o
-    → take a o ++ (splice (take (length o - a) (drop a o)) b x ++ drop (length o - a) (drop a o)) ≡ splice o (a + b) x
-splice-tail o a b x h = splice-part o a (length o - a) b x (omega arith) (omega arith)
-
--- what is read: within what was put in, before it, and after it
-pub splice-read : (o : List ℕ) (a : ℕ) (x : List ℕ) (i d : ℕ) → a ≤ length o → i < length x → getD (splice o a x) (a + i) d ≡ getD x i d
-unfolding splice
-splice-read o a x i d h m =
-    let la : length (take a o) ≡ a = length-take-le a o h in
-    ap (λ (l : List ℕ). getD l (a + i) d) (append-assoc (take a o) x (drop (a + length x) o))
-    ∙ ap (λ (k : ℕ). getD (take a o ++ (x ++ drop (a + length x) o)) (k + i) d) (sym la)
-    ∙ getD-append-add (take a o) (x ++ drop (a + length x) o) i d
-    ∙ List·getD-append x (drop (a + length x) o) d i m
-
-pub splice-before : (o : List ℕ) (a : ℕ) (x : List ℕ) (i d : ℕ) → a ≤ length o → i < a → getD (splice o a x) i d ≡ getD o i d
-unfolding splice
-splice-before o a x i d h m =
-    ap (λ (l : List ℕ). getD l i d) (append-assoc (take a o) x (drop (a + length x) o))
-    ∙ List·getD-append (take a o) (x ++ drop (a + length x) o) d i (rw (length-take-le a o h) m)
-    ∙ getD-take a o i d m
-
-pub splice-after : (o : List ℕ) (a : ℕ) (x : List ℕ) (i d : ℕ) → a ≤ length o
-    → getD (splice o a x) (a + length x + i) d ≡ getD o (a + length x + i) d
-unfolding splice
-splice-after o a x i d h =
-    ap (λ (k : ℕ). getD (splice o a x) (k + i) d) (sym (head-length o a x h))
-    ∙ getD-append-add (take a o ++ x) (drop (a + length x) o) i d
-    ∙ getD-drop (a + length x) o i d
 
 -- what was put in, as a part
 pub splice-part-read : (o : List ℕ) (a : ℕ) (x : List ℕ) → a ≤ length o → take (length x) (drop a (splice o a x)) ≡ x
@@ -162,16 +105,6 @@ next {o} {a} {n} {x} r y m e l p h =
       holds = chain o a x y (r .holds) e (p ∙ ap (λ (k : ℕ). a + k) (sym (r .count))) h;
       count = length-append x y ∙ ap (λ (k : ℕ). k + length y) (r .count) ∙ ap (λ (k : ℕ). n + k) l;
     }
-
--- a slice whose tail was lent, with what the tail came back as; and the same where the callee says it with `splice`
-pub back-tail : (o : List ℕ) (a : ℕ) (r : List ℕ) → take a o ++ (r ++ drop (length o - a) (drop a o)) ≡ take a o ++ r
-back-tail o a r =
-    rw (drop-of-length-le (drop a o) {i = length o - a} (simp length-drop (le-refl (length o - a))), append-nil)
-
-pub lent-tail : (o : List ℕ) (a b : ℕ) (x : List ℕ) {r : List ℕ} → r ≡ splice (take (length o - a) (drop a o)) b x
-    → a + b + length x ≤ length o
-    → take a o ++ (r ++ drop (length o - a) (drop a o)) ≡ splice o (a + b) x
-lent-tail o a b x {r} e h = ap (λ (l : List ℕ). take a o ++ (l ++ drop (length o - a) (drop a o))) e ∙ splice-tail o a b x h
 
 -- a piece is put right before one that stands there already
 pub splice-prev : (o : List ℕ) (a : ℕ) (x y : List ℕ) → a + length x + length y ≤ length o

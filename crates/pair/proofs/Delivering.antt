@@ -5,8 +5,8 @@ use mathlib.Core.List.{List, [], _∷_}
 use Prim.Native.Nat.{ℕ, suc}
 use lib.ListN.{length}
 use borrow.Author.Tests.{ne-eqb}
-use Rattle.rules.specs.Octets.{Octets, window}
-use Rattle.rules.specs.Assigned.{endMGtp6DDi, endMGtp6E, endMGtp4E, gPdu, downlink}
+use Rattle.rules.specs.Octets.{Octets}
+use Rattle.rules.specs.Assigned.{endMGtp6DDi, gPdu, downlink}
 use Rattle.rules.specs.Table.{entryAt, ruleAt}
 use Rattle.rules.specs.Entry as Entry
 use Rattle.rules.specs.Rule as Rule

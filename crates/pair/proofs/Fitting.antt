@@ -1,13 +1,13 @@
 -- A mismatch is 0 exactly when the tables fit.
-use mathlib.Core.Path.{_≡_, refl, sym, ap, _∙_}
+use mathlib.Core.Path.{_≡_, refl, sym, _∙_}
 use mathlib.Core.Bool.{Bool, true, false}
-use mathlib.Core.List.{List, [], _∷_}
-use Prim.Native.Nat.{ℕ, zero, suc, _+_, _*_, _-_, _≤_, _<_}
+use mathlib.Core.List.{List}
+use Prim.Native.Nat.{ℕ, suc, _+_, _*_, _-_, _≤_, _<_}
 use native.Mathlib.Omega.{arith}
 use lib.Dec.{eqb, ltb}
 use lib.ListN.{length}
 use borrow.Author.Tests.{eqb-true, eq-eqb, ltb-true, lt-ltb}
-use Rattle.rules.specs.Octets.{Octets, window}
+use Rattle.rules.specs.Octets.{Octets}
 use Rattle.rules.specs.Assigned.{end, endMGtp6DDi, endMGtp6E, endMGtp4E}
 use Rattle.rules.specs.Table.{entries, rules, policies, entryAt, ruleAt, policyAt}
 use Rattle.rules.specs.Entry as Entry
@@ -15,8 +15,7 @@ use Rattle.rules.specs.Rule as Rule
 use Rattle.rules.specs.Policy as Policy
 use Rattle.rules.specs.Sound.{sound, entryLimit}
 use Rattle.rules.specs.Fault.{told, entryRecord}
-use Rattle.rules.specs.Match.{entryBits, matchEntry}
-use Rattle.rules.specs.Args.{Args, withArgs}
+use Rattle.rules.specs.Match.{matchEntry}
 use Rattle.rules.specs.declared.Found.{Found}
 use Rattle.rules.specs.declared.Found.the-variants.{At, Nothing}
 use Rattle.rules.proofs.Windows.{window-length, octets-window}
@@ -25,9 +24,9 @@ use Rattle.rules.proofs.Faults.{none-told}
 use Rattle.rules.proofs.Tables.{sound-e6, sound-e4, sound-rule, sound-named, sound-policy}
 use Rattle.rules.specs.SoundRecord.{SoundE6, SoundE4, SoundPolicy}
 use Rattle.rules.proofs.Paths.{addressesAt-length}
-use Rattle.reach.specs.Reach.{Writable, reach6, reach4}
+use Rattle.reach.specs.Reach.{reach6, reach4}
 use Rattle.reach.proofs.Reached.{reach6-below, reach4-below, reach-matches6, reach-matches4, matches-reach6, matches-reach4}
-use Rattle.pair.specs.Fit.{policyIn, Fits6, Fits4, FitsWaypoint, FitWaypoints}
+use Rattle.pair.specs.Fit.{policyIn, Fits6, Fits4, FitsWaypoint}
 use Rattle.pair.specs.Mismatch.{unless, between6, between4, atReached, mismatch6, mismatch4, atMatched, mismatchWaypoint}
 
 -- NOTHING FAILS

@@ -1,8 +1,8 @@
 -- Every mismatch says what its number says: where each condition in turn holds the next is asked, and where it does not its number is told.
-use mathlib.Core.Path.{_≡_, refl, sym, ap, _∙_}
+use mathlib.Core.Path.{_≡_, refl}
 use mathlib.Core.Bool.{Bool, true, false}
 use mathlib.Core.List.{List}
-use Prim.Native.Nat.{ℕ, suc, _-_, _≤_, _<_}
+use Prim.Native.Nat.{ℕ, suc, _-_, _<_}
 use native.Mathlib.Omega.{arith}
 use lib.Dec.{eqb, ltb}
 use lib.ListN.{length}
@@ -18,7 +18,6 @@ use Rattle.rules.specs.Fault.{told, entryRecord}
 use Rattle.rules.specs.Match.{matchEntry}
 use Rattle.rules.specs.declared.Found.{Found}
 use Rattle.rules.specs.declared.Found.the-variants.{At, Nothing}
-use Rattle.rules.proofs.Windows.{octets-window}
 use Rattle.rules.proofs.Paths.{addressesAt-length}
 use Rattle.reach.specs.Reach.{ownArgs, reach6, reach4}
 use Rattle.reach.proofs.Own.{own-writable}
@@ -26,9 +25,9 @@ use Rattle.reach.proofs.Reached.{prefix-octets, reach-matches-own6, reach-none6
 use Rattle.reach.proofs.Reached.{ruleDestination, args-writable, destination-under}
 use Rattle.pair.specs.Fit.{policyIn}
 use Rattle.pair.specs.Mismatch.{unless, between6, between4, atReached, mismatch6, mismatch4, atMatched, mismatchWaypoint}
-use Rattle.pair.specs.Says.{naming, Asked6, Leads6, Same6, Says6, fit6, nearUnsound6, farUnsound6, noRecord6, notDi6, noEntry6}
+use Rattle.pair.specs.Says.{naming, Asked6, Leads6, Says6, fit6, nearUnsound6, farUnsound6, noRecord6, notDi6, noEntry6}
 use Rattle.pair.specs.Says.{kind6, direction6, session6, start6, hopLimit6}
-use Rattle.pair.specs.Says.{Leads4, Same4, Says4, fit4, nearUnsound4, farUnsound4, noRecord4, noEntry4, kind4, direction4}
+use Rattle.pair.specs.Says.{Leads4, Says4, fit4, nearUnsound4, farUnsound4, noRecord4, noEntry4, kind4, direction4}
 use Rattle.pair.specs.Says.{session4, p4, q4, hopLimit4}
 use Rattle.pair.specs.Says.{SaysWaypoint, fitAt, unsoundAt, sizeAt, noEntryAt, kindAt}
 use Rattle.pair.proofs.Fitting.{between-fits6, between-fits4, di-policy, sid-octets, sid-size, rule-octets, rule-p}

@@ -7,12 +7,10 @@ use Prim.Native.Nat.{ℕ, zero, suc, _+_, _*_, _-_, _^_, _/_, _%_, _≤_, _<_}
 use native.Mathlib.Nat.{mod-lt, mod-le}
 use native.Mathlib.Omega.{arith}
 use native.Mathlib.Decide.{decLt}
-use lib.ListN.{length}
 use lib.Pow.{pow-pos, shr-lt, split, high}
-use Rattle.rules.specs.Octets.{octet, Octets, window}
+use Rattle.rules.specs.Octets.{octet, Octets}
 use Rattle.rules.specs.Prefix.{under}
 use Rattle.rules.specs.Rule as Rule
-use Rattle.rules.specs.Args.{Args}
 use Rattle.rules.specs.E4.{startBehind}
 use Rattle.rules.proofs.Windows.{octet-window, octets-window}
 use Rattle.rules.proofs.Conditions.{and-left, and-right}

@@ -9,7 +9,7 @@ use native.Mathlib.Decide.{ℕ-discrete, decLt}
 use lib.Dec.{eqb}
 use lib.ListN.{length, List·getD-eq-default}
 use borrow.Author.Tests.{eqb-true, eq-eqb}
-use Rattle.rules.specs.Octets.{octet, Octets, window}
+use Rattle.rules.specs.Octets.{octet, Octets}
 use Rattle.rules.specs.Prefix.{under}
 use Rattle.rules.specs.Assigned.{downlink}
 use Rattle.rules.specs.Args.{Args, argsAt}

@@ -1,7 +1,6 @@
 -- With which Args a SID comes under a prefix: with some exactly where it does with the prefix's own; and with all where the prefix ends
 -- before Args.
 use mathlib.Core.Path.{_≡_, refl, sym, ap, _∙_}
-use mathlib.Core.Logic.{_≢_}
 use mathlib.Core.Bool.{Bool, true, false, cond}
 use mathlib.Core.List.{List}
 use Prim.Native.Nat.{ℕ, zero, suc, _+_, _*_, _^_, _/_, _%_, _≤_, _<_}
@@ -10,7 +9,7 @@ use native.Mathlib.Omega.{arith}
 use lib.Dec.{eqb}
 use lib.ListN.{length}
 use borrow.Author.Tests.{eqb-false, ne-eqb}
-use Rattle.rules.specs.Octets.{octet, Octets, window}
+use Rattle.rules.specs.Octets.{octet, Octets}
 use Rattle.rules.specs.Prefix.{under}
 use Rattle.rules.specs.Assigned.{downlink}
 use Rattle.rules.specs.Args.{Args, argsOctets, argsAt, withArgs}

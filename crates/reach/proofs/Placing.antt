@@ -1,12 +1,12 @@
 -- The octets, one by one, of a SID with Args, of an address behind a prefix, and of the SID that a rule builds.
 use mathlib.Core.Path.{_≡_, refl, sym, ap, _∙_, subst}
-use mathlib.Core.List.{List, [], _∷_, _++_}
-use Prim.Native.Nat.{ℕ, zero, suc, _+_, _*_, _-_, _/_, _≤_, _<_}
+use mathlib.Core.List.{List, _++_}
+use Prim.Native.Nat.{ℕ, zero, suc, _+_, _-_, _/_, _≤_, _<_}
 use native.Mathlib.Omega.{arith}
 use native.Mathlib.Decide.{decLt}
-use lib.ListN.{length, take, drop, replicate, getD, List·getD-append, length-append, length-take, length-replicate}
+use lib.ListN.{length, take, drop, replicate, List·getD-append, length-append, length-take, length-replicate}
 use lib.Seq.{getD-take, getD-drop, length-take-le}
-use Rattle.rules.specs.Octets.{octet, Octets, window}
+use Rattle.rules.specs.Octets.{octet, Octets}
 use Rattle.rules.specs.Rule as Rule
 use Rattle.rules.specs.Args.{Args, argsOctets, withArgs}
 use Rattle.rules.specs.E4.{startBehind}

@@ -1,6 +1,6 @@
 -- The longest entry that is reached, and the longest match: it is the longest match with some Args and destination, and with all where
 -- it ends before them. Where none is reached, none matches.
-use mathlib.Core.Path.{_≡_, refl, sym, ap, _∙_}
+use mathlib.Core.Path.{_≡_, refl, sym, _∙_}
 use mathlib.Core.Bool.{Bool, true}
 use mathlib.Core.List.{List}
 use Prim.Native.Nat.{ℕ, _*_, _%_, _≤_, _<_}
@@ -16,7 +16,7 @@ use Rattle.rules.specs.E4.{startBehind}
 use Rattle.rules.specs.declared.Found.{Found}
 use Rattle.rules.specs.declared.Found.the-variants.{At, Nothing}
 use Rattle.rules.proofs.Windows.{octets-window}
-use Rattle.rules.proofs.Longest.{BestAt, Best, longest-best, longest-at, longest-below, matched-entry, the-longest-entry}
+use Rattle.rules.proofs.Longest.{Best, longest-best, longest-at, longest-below, the-longest-entry}
 use Rattle.reach.specs.Reach.{Writable, Under, ruleSid, ownArgs, reaches6, entryReached6, entryReached4, reach6, reach4}
 use Rattle.reach.proofs.Own.{own-writable, some-reaches, reaches-every}
 use Rattle.reach.proofs.Own4.{rule-args-writable, some-reaches4, reaches-every4}

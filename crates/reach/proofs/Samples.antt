@@ -2,7 +2,7 @@
 -- of rules with the prefix 2001:db8:c::/48.
 use mathlib.Core.Path.{_≡_, refl}
 use mathlib.Core.Bool.{true, false}
-use mathlib.Core.List.{List, [], _∷_, _++_}
+use mathlib.Core.List.{List, [], _∷_}
 use Prim.Native.Nat.{ℕ}
 use Rattle.rules.specs.Octets.{splice}
 use Rattle.rules.specs.Assigned.{downlink, uplink}

@@ -1,14 +1,14 @@
 -- Each behaviour is of the form of Plan.antt: what it sends is its head, then the arriving octets from its place on.
 use mathlib.Core.Path.{_≡_, refl, sym, ap, _∙_}
-use mathlib.Core.Bool.{Bool, true, false}
+use mathlib.Core.Bool.{true}
 use mathlib.Core.List.{List, [], _∷_, _++_, append-nil, append-assoc}
-use Prim.Native.Nat.{ℕ, zero, suc, _+_, _-_, _*_, _/_, _%_, _≤_, _<_}
+use Prim.Native.Nat.{ℕ, zero, suc, _+_, _-_, _*_, _/_, _%_, _≤_}
 use native.Mathlib.Nat.{add-zero}
 use native.Mathlib.Omega.{arith}
-use lib.Dec.{eqb, ltb}
+use lib.Dec.{ltb}
 use lib.ListN.{length, drop, take, getD, length-append, length-drop, take-append-drop}
 use lib.Seq.{drop-drop, getD-drop, take-append-le, drop-append-le}
-use borrow.Author.Tests.{not-false, ltb-false, eqb-true, ne-eqb}
+use borrow.Author.Tests.{not-false, ltb-false, ne-eqb}
 use Rattle.rules.specs.Octets.{octet, window, splice, put16}
 use Rattle.rules.specs.Assigned.{udpProtocol, routingHeader, segmentRouting}
 use Rattle.rules.specs.Table.{addressesAt}

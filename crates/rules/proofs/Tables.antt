@@ -2,14 +2,12 @@
 use mathlib.Core.Path.{_≡_}
 use mathlib.Core.Bool.{true}
 use mathlib.Core.List.{List}
-use Prim.Native.Nat.{ℕ, _*_, _%_, _≤_, _<_}
+use Prim.Native.Nat.{ℕ, _<_}
 use native.Mathlib.Omega.{arith}
 use borrow.Author.Tests.{leb-true, ltb-true}
 use Rattle.rules.specs.Assigned.{endMGtp6D, endMGtp6DDi, endMGtp6E, endMGtp4E}
 use Rattle.rules.specs.Table.{entries, policies, entryAt, ruleAt, policyAt}
 use Rattle.rules.specs.Entry as Entry
-use Rattle.rules.specs.Rule as Rule
-use Rattle.rules.specs.Policy as Policy
 use Rattle.rules.specs.Match.{matchEntry, matchRule}
 use Rattle.rules.specs.Sound.{directionKnown, sessionKnown, usesSession, usesPolicy, usesStart, usesPlaces}
 use Rattle.rules.specs.Sound.{entryConditions, ruleConditions, entrySound, ruleSound, policySound, soundWithin}

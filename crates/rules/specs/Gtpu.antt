@@ -10,9 +10,6 @@ use Rattle.rules.specs.Args.{Args}
 
 -- FIELDS OF A UDP DATAGRAM u
 
-abbrev pub udpSize : ℕ
-udpSize = 8
-
 abbrev pub sourcePort : List ℕ → ℕ
 sourcePort u = read16 u 0
 

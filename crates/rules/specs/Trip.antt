@@ -4,7 +4,6 @@ use Prim.Native.Nat.{ℕ}
 use lib.ListN.{length, take}
 use Rattle.rules.specs.Answer.{Outcome, Sent, Refused, overlay}
 use Rattle.rules.specs.Calls.{translate6, translate4}
-use Rattle.rules.specs.declared.Refusal.{Refusal}
 
 -- which of the two calls
 pub data Version : Type 0 where

@@ -1,4 +1,4 @@
--- What a sound table says of its length: that each record that is found, and each policy that a found entry names, lies in it.
+-- What a sound table says of its length: each record below its count, and each record that is found, lies in it.
 use mathlib.Core.Path.{_≡_}
 use mathlib.Core.Bool.{true}
 use mathlib.Core.List.{List}
@@ -6,15 +6,12 @@ use Prim.Native.Nat.{ℕ, _+_, _*_, _≤_, _<_}
 use native.Mathlib.Omega.{arith}
 use borrow.Author.Tests.{eqb-true}
 use lib.ListN.{length}
-use Rattle.rules.specs.Assigned.{endMGtp6D, endMGtp6DDi}
-use Rattle.rules.specs.Table.{entries, rules, policies, rulesAt, policiesAt, tableSize, entryAt}
-use Rattle.rules.specs.Entry as Entry
+use Rattle.rules.specs.Table.{entries, rules, policies, rulesAt, policiesAt, tableSize}
 use Rattle.rules.specs.Match.{matchEntry, matchRule}
 use Rattle.rules.specs.Sound.{entryLimit, headerSound, sound}
 use Rattle.rules.specs.declared.Found.the-variants.{At}
 use Rattle.rules.proofs.Conditions.{conjunct, sound-parts}
 use Rattle.rules.proofs.Longest.{matched-entry, matched-rule}
-use Rattle.rules.proofs.Tables.{found-d, found-di}
 
 pub header-size : (limit : ℕ) (t : List ℕ) → headerSound limit t ≡ true → length t ≡ tableSize t
 unfolding headerSound
@@ -47,12 +44,3 @@ module _ (t : List ℕ) (s : sound t ≡ true) where
 
   pub found-rule-within : (a : List ℕ) (k : ℕ) → matchRule t a ≡ At k → rulesAt t + 160 * (k + 1) ≤ length t
   found-rule-within a k m = rule-within k (matched-rule t a k m .below)
-
-  -- the policy of an entry of D, and of Di
-  pub policy-d-within : (a : List ℕ) (i : ℕ) → matchEntry t a ≡ At i → Entry.behaviour (entryAt t i) ≡ endMGtp6D
-      → policiesAt t + 288 * (Entry.policy (entryAt t i) + 1) ≤ length t
-  policy-d-within a i m b = policy-within (Entry.policy (entryAt t i)) (found-d entryLimit t a i s m b .named)
-
-  pub policy-di-within : (a : List ℕ) (i : ℕ) → matchEntry t a ≡ At i → Entry.behaviour (entryAt t i) ≡ endMGtp6DDi
-      → policiesAt t + 288 * (Entry.policy (entryAt t i) + 1) ≤ length t
-  policy-di-within a i m b = policy-within (Entry.policy (entryAt t i)) (found-di entryLimit t a i s m b .named)

@@ -2,19 +2,17 @@
 use mathlib.Core.Path.{_≡_, refl, sym, ap, _∙_}
 use mathlib.Core.Bool.{true, false}
 use mathlib.Core.List.{List, [], _∷_}
-use Prim.Native.Nat.{ℕ, _+_, _-_, _*_, _≤_}
+use Prim.Native.Nat.{ℕ, _+_, _-_, _*_}
 use native.Mathlib.Omega.{arith}
 use lib.ListN.{length}
-use Rattle.rules.specs.Octets.{octet, window, splice}
+use Rattle.rules.specs.Octets.{window, splice}
 use Rattle.rules.specs.Srh as Srh
 use Rattle.rules.specs.Answer.{plain, any, verdict}
 use Rattle.rules.specs.Header.{header, badChain, WellFormed}
 use Rattle.rules.specs.Waypoint.{Routing, routing, step, withRouting, stepRows, waypointRows}
 use Rattle.rules.specs.Plan.{waypointPlan}
 use Rattle.rules.specs.declared.Header.{Header}
-use Rattle.rules.specs.declared.Verdict.{Verdict}
-use Rattle.rules.specs.declared.Verdict.the-variants.{Pass, Refuse}
-use Rattle.rules.proofs.Windows.{window-length}
+use Rattle.rules.specs.declared.Verdict.the-variants.{Refuse}
 use Rattle.rules.proofs.Judging.{row-yes, row-no}
 use Rattle.rules.proofs.Plans.{passes-long}
 use Rattle.answer.proofs.Calling.{Judged}

@@ -4,8 +4,7 @@ use Rattle.rules.specs.Plan.{e4Head, e4Plan}
 use Rattle.rules.proofs.Plans.{e4-carried-out}
 use denote.Ref.{now}
 use native.Mathlib.Omega.{arith}
-use Prim.Native.Nat.{ℕ, _+_}
-use mathlib.Core.List.{List}
+use Prim.Native.Nat.{_+_}
 use mathlib.Core.Path.{_≡_}
 use borrow.Author.Needs.{needs}
 use Rattle.far.proofs.at_e4.Statement.{statement}

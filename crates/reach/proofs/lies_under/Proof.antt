@@ -1,10 +1,9 @@
-use mathlib.Core.Path.{_≡_, ap, _∙_}
+use mathlib.Core.Path.{_≡_, _∙_}
 use Prim.Native.Nat.{ℕ, suc, _+_, _*_, _-_, _/_, _^_, _≤_, _<_}
 use native.Mathlib.Omega.{arith}
 use lib.Dec.{eqb}
 use borrow.Author.Needs.{needs}
 use Rattle.rules.specs.Octets.{octet}
-use Rattle.reach.proofs.Agreeing.{beyond}
 use Rattle.reach.proofs.Laws.{Looked, none-looked, one-looked, all-looked}
 use Rattle.reach.proofs.lies_under.Statement.{statement}
 use Rattle.reach.proofs.lies_under.Tie as tie
