@@ -66,7 +66,8 @@ check-packages:
 
 # what the tests beside the proofs need
 test-packages:
-	$(call install,gcc:gcc g++:g++ nm:binutils cargo:cargo valgrind:valgrind mandoc:mandoc pkg-config:pkg-config jq:jq $(tool_needs))
+	$(call install,git:git gcc:gcc g++:g++ nm:binutils cargo:cargo valgrind:valgrind mandoc:mandoc pkg-config:pkg-config jq:jq \
+	  $(tool_needs))
 
 # the layout of the sources, and that what the documents list is there
 format:
