@@ -41,3 +41,13 @@ module _ (plan : Plan) (p : List ℕ) (o : Outcome) (is : carryOut plan p ≡ o)
 
     pub plan-sent : a .number ≡ 0 → {b″ : List ℕ} → Run b′ 0 before head b″ → Answered (settle (length b) o) b a b″
     plan-sent n {b″} w = answered-as _ _ _ _ _ passed (placed-sent before place p b b′ a r head n b″ w)
+
+-- a plan that another function has carried out: it sent what the plan sends
+pub plan-replied : (plan : Plan) (p : List ℕ) (o : Outcome) (wanted : List ℕ) → carryOut plan p ≡ o → verdict (plan .rows) ≡ Pass
+    → sentBy (plan .head) (plan .place) p ≡ wanted → {b : List ℕ} {a : Answer} {b′ : List ℕ}
+    → Answered (settle (length b) (Sent wanted)) b a b′ → Answered (settle (length b) o) b a b′
+plan-replied plan p o wanted is pass whole {b} h =
+    answered-as _ _ _ _ _
+    (ap (λ (x : List ℕ). settle (length b) (Sent x)) (sym whole)
+    ∙ sym (pass-settles (length b) (plan .rows) _ pass)
+    ∙ ap (settle (length b)) is) h

@@ -8,7 +8,7 @@ use native.Mathlib.Nat.{add-zero}
 use lib.Dec.{eqb}
 use lib.ListN.{length, drop, length-drop}
 use Rattle.rules.specs.Octets.{octet, window, put16}
-use Rattle.rules.specs.Assigned.{downlink, gPdu, pduSessionContainer}
+use Rattle.rules.specs.Assigned.{downlink, gPdu, gtpuPort, pduSessionContainer}
 use Rattle.rules.specs.Answer.{Row, row, any, verdict, first}
 use Rattle.rules.specs.Args.{Args}
 use Rattle.rules.specs.Gtpu as Gtpu
@@ -80,7 +80,7 @@ module _ (r : Row) (rs : List Row) (v : Verdict) (judged : v ≡ verdict (r ∷ 
 -- from the octets of the TEID, one by one
 pub datagram-written : (port direction size flow : ℕ) (teid : List ℕ) (x : Args) → length teid ≡ 4 → teid ≡ x .teid
     → flow ≡ flowOctet direction (x .qfi) (x .reflective)
-    → udp port (24 + size) 0
+    → udp port gtpuPort (24 + size) 0
     (gtpuFlags ∷ gPdu ∷ put16 (8 + size)
     (octet teid 0 ∷ octet teid 1 ∷ octet teid 2 ∷ octet teid 3
     ∷ 0 ∷ 0 ∷ 0 ∷ pduSessionContainer ∷ 1 ∷ (direction * 16) ∷ flow ∷ 0 ∷ []))
@@ -88,7 +88,7 @@ pub datagram-written : (port direction size flow : ℕ) (teid : List ℕ) (x : A
 unfolding window
 datagram-written port direction size flow teid x l t f =
     let e : window teid 0 4 ≡ x .teid = window-all teid 4 l ∙ t in
-    λ i. udp port (24 + size) 0
+    λ i. udp port gtpuPort (24 + size) 0
     (gtpuFlags ∷ gPdu ∷ put16 (8 + size)
     (e i ++ (0 ∷ 0 ∷ 0 ∷ pduSessionContainer ∷ 1 ∷ (direction * 16) ∷ f i ∷ 0 ∷ [])))
 

@@ -1,8 +1,8 @@
 -- D4 from its views: the addresses that it builds; its rows, its head and the place of the inner packet are those of the plan.
 use mathlib.Core.Path.{_≡_, refl, sym, ap, _∙_, subst}
-use mathlib.Core.Bool.{cond}
+use mathlib.Core.Bool.{Bool, true, false, cond}
 use mathlib.Core.List.{List, [], _∷_, _++_, append-assoc}
-use Prim.Native.Nat.{ℕ, zero, suc, _+_, _-_, _*_, _≤_}
+use Prim.Native.Nat.{ℕ, zero, suc, _+_, _-_, _*_, _≤_, _<_}
 use native.Mathlib.Nat.{zero-add}
 use native.Mathlib.Omega.{arith}
 use lib.Dec.{eqb}
@@ -15,26 +15,33 @@ use Rattle.rules.specs.Gtpu as Gtpu
 use Rattle.rules.specs.Table.{addressesAt}
 use Rattle.rules.specs.Args.{Args, withArgs}
 use Rattle.rules.specs.Ipv6.{ipv6}
-use Rattle.rules.specs.Answer.{verdict}
-use Rattle.rules.specs.Header4.{WellFormed4}
-use Rattle.rules.specs.Datagram.{messageRows, gPduRows, innerRows}
+use Rattle.rules.specs.Ipv4.{ipv4}
+use Rattle.rules.specs.Answer.{verdict, Sent, Refused, settle}
+use Rattle.rules.specs.Header4.{header4, WellFormed4}
+use Rattle.rules.specs.Datagram.{datagram, messageRows}
+use Rattle.rules.specs.Echo.{isEcho, echoAnswer, echoReply4}
 use Rattle.rules.specs.Session.{innerProtocol}
 use Rattle.rules.specs.Srv6.{pastWaypointsPayload}
-use Rattle.rules.specs.Carried.{carriedBy, carried4}
+use Rattle.rules.specs.Carried.{carriedBy, carried4, datagramIn4}
 use Rattle.rules.specs.E4.{startBehind}
-use Rattle.rules.specs.D4.{addressBehind, d4Sid, d4Source, gtp4Rows, rowsD4}
-use Rattle.rules.specs.Plan.{headAlong, innerAt, d4Head, d4Plan}
+use Rattle.rules.specs.D4.{addressBehind, d4Sid, d4Source, gtp4Rows, rowsD4, rowsEcho4, atD4}
+use Rattle.rules.specs.Plan.{carryOut, headAlong, innerAt, d4Head, echoPlan4, gPduPlan4}
 use Rattle.rules.specs.declared.Header4.{Header4}
 use Rattle.rules.specs.declared.Datagram.{Datagram}
+use Rattle.rules.specs.declared.Refusal.{Refusal}
 use Rattle.rules.specs.declared.Verdict.{Verdict}
+use Rattle.rules.specs.declared.Verdict.the-variants.{Pass, Refuse}
 use Rattle.rules.proofs.Paths.{addressesAt-length}
-use Rattle.rules.proofs.Plans.{inner-4}
+use Rattle.rules.proofs.Plans.{inner-4, all-head, echo4-carried-out, gPdu4-carried-out}
 use Rattle.octets.specs.Run.{Run}
 use Rattle.octets.proofs.Laws.{splice-front, chain, run-as}
 use Rattle.octets.proofs.Windows.{window-part}
-use Rattle.answer.proofs.Calling.{Judged}
+use Rattle.answer.specs.declared.Answer.{Answer}
+use Rattle.answer.specs.Answered.{answerOf, Answered}
+use Rattle.answer.proofs.Calling.{Judged, plan-refused, plan-replied}
 use Rattle.path.proofs.Heads.{head-length}
-use Rattle.path.proofs.Judged.{GpduRead, gpdu-place, gpdu-verdict, gpdu-bounds}
+use Rattle.path.specs.ByType.{typeRows}
+use Rattle.path.proofs.Judged.{GpduRead, gpdu-place, echo-verdict, gpdu-verdict, gpdu-bounds}
 
 -- ADDRESSES
 
@@ -105,30 +112,75 @@ payload-past r (suc w) inner =
 module _ (r p : List ℕ) (h : Header4) (arrived : WellFormed4 p h) (g : Datagram) (place size first w : ℕ) (read : GpduRead p 20 g place
     size first)
     (hw : w ≡ Rule.waypointCount r) where
-  d4-place : place ≡ d4Plan r p .place
-  unfolding d4Plan
-  d4-place = gpdu-place p 20 g place size first read
+  gPdu4-place : place ≡ gPduPlan4 r p .place
+  unfolding gPduPlan4
+  gPdu4-place = gpdu-place p 20 g place size first read
 
   inner-here : drop place p ≡ carried4 p .inner
-  unfolding d4Plan
-  inner-here = ap (λ (k : ℕ). drop k p) d4-place ∙ inner-4 p
+  unfolding gPduPlan4
+  inner-here = ap (λ (k : ℕ). drop k p) gPdu4-place ∙ inner-4 p
 
-  pub d4-judged : (v : Verdict) (field : ℕ) → field ≡ cond (eqb w 0) size (24 + 16 * w + size)
-      → v ≡ verdict (gtp4Rows h g ++ (messageRows g ++ (gPduRows (Rule.direction r) g ++ innerRows (Rule.session r) size first field)))
-      → Judged (d4Plan r p) p place field v
-  unfolding d4Plan rowsD4
-  d4-judged v field hl judged =
-      let z : size ≡ length (carried4 p .inner) = read .holds ∙ sym (length-drop place p) ∙ ap length inner-here in
-      let f : field ≡ pastWaypointsPayload (Rule.waypoints r) (carried4 p .inner) =
-      hl ∙ (λ i. cond (eqb (hw i) 0) (z i) (24 + 16 * hw i + z i)) ∙ payload-past r (Rule.waypointCount r) (carried4 p .inner) in
-      let bounds = gpdu-bounds p 20 g place size first read (gtp4Rows h g) (Rule.direction r) (Rule.session r) field v judged in
-      record {
-        rows = gpdu-verdict p 20 g place size first read (gtp4Rows h g) (Rule.direction r) (Rule.session r) field v judged
-            (carried4 p .inner) inner-here _ (λ i. gtp4Rows (arrived .view i) (read .view i)) _ f;
-        at = d4-place;
-        within = λ q. bounds q .0;
-        fits = λ q. omega (arith, bounds q .1);
-      }
+  -- what the rows say
+  module _ (v : Verdict) (field : ℕ) (hl : field ≡ cond (eqb w 0) size (24 + 16 * w + size))
+      (judged : v ≡ verdict (gtp4Rows h g ++ (messageRows g ++ typeRows (Rule.direction r) (Rule.session r) g size first field))) where
+    front-here : gtp4Rows h g ≡ gtp4Rows (header4 p) (datagram (datagramIn4 p))
+    front-here = λ i. gtp4Rows (arrived .view i) (read .view i)
+
+    -- of an Echo Request
+    echo4-judged : isEcho (datagram (datagramIn4 p)) ≡ true → Judged (echoPlan4 r p) p (length p) 0 v
+    unfolding echoPlan4 rowsEcho4
+    echo4-judged t = record {
+      rows = echo-verdict p 20 g place size first read (gtp4Rows h g) (Rule.direction r) (Rule.session r) field v judged t _ front-here;
+      at = refl;
+      within = λ q. omega arith;
+      fits = λ q. omega arith;
+    }
+
+    -- of any other message
+    gPdu4-judged : isEcho (datagram (datagramIn4 p)) ≡ false → Judged (gPduPlan4 r p) p place field v
+    unfolding gPduPlan4 rowsD4
+    gPdu4-judged t =
+        let z : size ≡ length (carried4 p .inner) = read .holds ∙ sym (length-drop place p) ∙ ap length inner-here in
+        let f : field ≡ pastWaypointsPayload (Rule.waypoints r) (carried4 p .inner) =
+        hl ∙ (λ i. cond (eqb (hw i) 0) (z i) (24 + 16 * hw i + z i)) ∙ payload-past r (Rule.waypointCount r) (carried4 p .inner) in
+        let bounds = gpdu-bounds p 20 g place size first read (gtp4Rows h g) (Rule.direction r) (Rule.session r) field v judged t in
+        record {
+          rows = gpdu-verdict p 20 g place size first read (gtp4Rows h g) (Rule.direction r) (Rule.session r) field v judged t
+              (carried4 p .inner) inner-here _ front-here _ f;
+          at = gPdu4-place;
+          within = λ q. bounds q .0;
+          fits = λ q. omega (arith, bounds q .1);
+        }
+
+    -- a refusal, whatever the message is
+    pub d4-refused : (ρ : Refusal) (b : List ℕ) (a : Answer) → v ≡ Refuse ρ → (a ≡ answerOf (Refused ρ)) × (a .size < 65700)
+        → Answered (settle (length b) (atD4 r p)) b a b
+    d4-refused ρ b a q k = go (isEcho (datagram (datagramIn4 p))) refl
+      where
+        go : (echo : Bool) → isEcho (datagram (datagramIn4 p)) ≡ echo → Answered (settle (length b) (atD4 r p)) b a b
+        go true t = plan-refused (echoPlan4 r p) p _ (echo4-carried-out r p t) (echo4-judged t) ρ b a q k
+        go false t = plan-refused (gPduPlan4 r p) p _ (gPdu4-carried-out r p t) (gPdu4-judged t) ρ b a q k
+
+    -- from the view: what is sent where the message is no Echo Request
+    type-here : (echo : Bool) → isEcho g ≡ echo → isEcho (datagram (datagramIn4 p)) ≡ echo
+    type-here echo t = ap (λ (g : Datagram). isEcho g) (sym (read .view)) ∙ t
+
+    pub other4-judged : isEcho g ≡ false → Judged (gPduPlan4 r p) p place field v
+    other4-judged t = gPdu4-judged (type-here false t)
+
+    pub other4-carried-out : isEcho g ≡ false → carryOut (gPduPlan4 r p) p ≡ atD4 r p
+    other4-carried-out t = gPdu4-carried-out r p (type-here false t)
+
+    -- the reply to an Echo Request
+    pub echo4-answered : isEcho g ≡ true → v ≡ Pass → (tos : ℕ) → tos ≡ octet p 1 → {b : List ℕ} {a : Answer} {b′ : List ℕ}
+        → Answered (settle (length b) (Sent (ipv4 tos 42 (Rule.hopLimit r) (window p 16 4) (window p 12 4) (echoAnswer (drop 20 p))))) b a b′
+        → Answered (settle (length b) (atD4 r p)) b a b′
+    unfolding echoPlan4 echoReply4
+    echo4-answered t q tos ht =
+        let is = type-here true t in
+        let reply : echoReply4 r p ≡ ipv4 tos 42 (Rule.hopLimit r) (window p 16 4) (window p 12 4) (echoAnswer (drop 20 p)) =
+        ap (λ (k : ℕ). ipv4 k 42 (Rule.hopLimit r) (window p 16 4) (window p 12 4) (echoAnswer (drop 20 p))) (sym ht) in
+        plan-replied (echoPlan4 r p) p _ _ (echo4-carried-out r p is) (sym (echo4-judged is .rows) ∙ q) (all-head (echoReply4 r p) p ∙ reply)
 
   -- what is written before the inner packet
   module _ (x : Args) (class : ℕ) (from to source sid : List ℕ)
@@ -136,11 +188,11 @@ module _ (r p : List ℕ) (h : Header4) (arrived : WellFormed4 p h) (g : Datagra
       (hc : class ≡ octet p 1) (hf : from ≡ window p 12 4) (ht : to ≡ window p 16 4)
       (hs : source ≡ addressBehind (Rule.sourcePrefix r) (Rule.q r) from)
       (hd : sid ≡ withArgs (addressBehind (Rule.sidPrefix r) (Rule.p r) to) (startBehind (Rule.p r)) x) where
-    pub d4-head : d4Head r class (innerProtocol (Rule.session r) (first ∷ [])) source sid size ≡ d4Plan r p .head
-    unfolding d4Plan d4Source d4Sid carried4 carriedBy
+    pub d4-head : d4Head r class (innerProtocol (Rule.session r) (first ∷ [])) source sid size ≡ gPduPlan4 r p .head
+    unfolding gPduPlan4 d4Source d4Sid carried4 carriedBy
     d4-head =
-        let f : first ≡ octet p (innerAt p 20) = read .starts ∙ ap (octet p) d4-place in
-        let z : size ≡ length p - innerAt p 20 = read .holds ∙ ap (λ (k : ℕ). length p - k) d4-place in
+        let f : first ≡ octet p (innerAt p 20) = read .starts ∙ ap (octet p) gPdu4-place in
+        let z : size ≡ length p - innerAt p 20 = read .holds ∙ ap (λ (k : ℕ). length p - k) gPdu4-place in
         let u = ap (λ (k : ℕ). innerProtocol (Rule.session r) (k ∷ [])) f in
         let s = hs ∙ ap (addressBehind (Rule.sourcePrefix r) (Rule.q r)) hf in
         let d = hd ∙ (λ i. withArgs (addressBehind (Rule.sidPrefix r) (Rule.p r) (ht i)) (startBehind (Rule.p r)) (hx i)) in

@@ -1,5 +1,6 @@
 -- D and Di from their views: their rows, their head and the place of the inner packet are those of the plan.
-use mathlib.Core.Path.{_≡_, sym, ap, _∙_, subst}
+use mathlib.Core.Path.{_≡_, refl, sym, ap, _∙_, subst}
+use mathlib.Core.Bool.{Bool, true, false}
 use mathlib.Core.List.{List, [], _∷_, _++_}
 use Prim.Native.Nat.{ℕ, _+_, _-_, _*_, _≤_, _<_}
 use native.Mathlib.Omega.{arith}
@@ -10,27 +11,34 @@ use Rattle.rules.specs.Policy as Policy
 use Rattle.rules.specs.Ipv6 as Ipv6
 use Rattle.rules.specs.Gtpu as Gtpu
 use Rattle.rules.specs.Args.{Args}
-use Rattle.rules.specs.Answer.{verdict}
+use Rattle.rules.specs.Ipv6.{ipv6}
+use Rattle.rules.specs.Answer.{verdict, Sent, Refused, settle}
 use Rattle.rules.specs.Header.{header}
-use Rattle.rules.specs.Datagram.{messageRows, gPduRows, innerRows}
+use Rattle.rules.specs.Datagram.{datagram, messageRows}
+use Rattle.rules.specs.Echo.{isEcho, echoAnswer, echoReply6}
 use Rattle.rules.specs.Session.{innerProtocol}
 use Rattle.rules.specs.Carried.{carriedBy, carried6, datagramIn6}
-use Rattle.rules.specs.Gtp6D.{gtp6Rows, rowsGtp6D}
+use Rattle.rules.specs.Gtp6D.{gtp6Rows, rowsGtp6D, rowsEcho6}
 use Rattle.rules.specs.D.{lastWithArgs}
-use Rattle.rules.specs.Plan.{tailOf, headAlong, gtp6DPath, gtp6DPlan, innerAt}
+use Rattle.rules.specs.Plan.{carryOut, tailOf, headAlong, gtp6DPath, atGtp6D, echoPlan6, gPduPlan6, innerAt}
 use Rattle.rules.specs.declared.Header.{Header}
 use Rattle.rules.specs.declared.Datagram.{Datagram}
+use Rattle.rules.specs.declared.Refusal.{Refusal}
 use Rattle.rules.specs.declared.Verdict.{Verdict}
+use Rattle.rules.specs.declared.Verdict.the-variants.{Pass, Refuse}
 use Rattle.rules.proofs.Windows.{window-length}
 use Rattle.rules.proofs.Paths.{addressesAt-length}
 use Rattle.rules.proofs.Sids.{withArgs-length}
 use Rattle.rules.proofs.Messages.{carriedBy-fits}
-use Rattle.rules.proofs.Plans.{tail-length, inner-6}
-use Rattle.answer.proofs.Calling.{Judged}
+use Rattle.rules.proofs.Plans.{tail-length, inner-6, all-head, echo6-carried-out, gPdu6-carried-out}
+use Rattle.answer.specs.declared.Answer.{Answer}
+use Rattle.answer.specs.Answered.{answerOf, Answered}
+use Rattle.answer.proofs.Calling.{Judged, plan-refused, plan-replied}
 use Rattle.path.specs.declared.PathPlan.{PathPlan}
 use Rattle.path.specs.Fits.{Ready, headOf}
 use Rattle.path.proofs.Heads.{head-length}
-use Rattle.path.proofs.Judged.{GpduRead, gpdu-place, gpdu-verdict, gpdu-bounds}
+use Rattle.path.specs.ByType.{typeRows}
+use Rattle.path.proofs.Judged.{GpduRead, gpdu-place, echo-verdict, gpdu-verdict, gpdu-bounds}
 use Rattle.near.specs.Asked.{Gtp6DAsked}
 use Rattle.near.specs.Gtp6DPlan.{pathPlan}
 
@@ -57,32 +65,87 @@ module _ (e policy : List ℕ) (tail : ℕ) (p : List ℕ) (h : Header) (asked :
     here : GpduRead p (header p .upperAt) g place size first
     here = subst (λ (k : ℕ). GpduRead p k g place size first) upper-here r
 
-    gtp6D-place : place ≡ gtp6DPlan tail e policy p .place
-    unfolding gtp6DPlan
-    gtp6D-place = gpdu-place p (header p .upperAt) g place size first here
+    gPdu6-place : place ≡ gPduPlan6 tail e policy p .place
+    unfolding gPduPlan6
+    gPdu6-place = gpdu-place p (header p .upperAt) g place size first here
 
     inner-here : drop place p ≡ carried6 p .inner
-    unfolding gtp6DPlan
-    inner-here = ap (λ (k : ℕ). drop k p) gtp6D-place ∙ inner-6 p
+    unfolding gPduPlan6
+    inner-here = ap (λ (k : ℕ). drop k p) gPdu6-place ∙ inner-6 p
 
-    pub gtp6D-judged : (v : Verdict)
-        → v ≡ verdict (gtp6Rows h g ++ (messageRows g ++ (gPduRows (Entry.direction e) g
-        ++ innerRows (Entry.session e) size first (8 + 16 * (n - 1 + tail) + size))))
-        → Judged (gtp6DPlan tail e policy p) p place (8 + 16 * (n - 1 + tail) + size) v
-    unfolding gtp6DPlan rowsGtp6D
-    gtp6D-judged v judged =
-        let path = gtp6DPath tail policy (carried6 p) in
-        let k : n - 1 + tail ≡ length path = ap (λ (j : ℕ). j - 1 + tail) hn ∙ sym path-count in
-        let z : size ≡ length (carried6 p .inner) = here .holds ∙ sym (length-drop place p) ∙ ap length inner-here in
-        let bounds = gpdu-bounds p (header p .upperAt) g place size first here (gtp6Rows h g) (Entry.direction e) (Entry.session e) _ v
-        judged in
-        record {
-          rows = gpdu-verdict p (header p .upperAt) g place size first here (gtp6Rows h g) (Entry.direction e) (Entry.session e) _ v judged
-              (carried6 p .inner) inner-here _ (λ i. gtp6Rows (asked .arrived .view i) (here .view i)) _ (λ i. 8 + 16 * k i + z i);
-          at = gtp6D-place;
-          within = λ q. bounds q .0;
-          fits = λ q. omega (arith, bounds q .1);
-        }
+    -- what the rows say
+    module _ (v : Verdict)
+        (judged : v ≡ verdict (gtp6Rows h g ++ (messageRows g
+        ++ typeRows (Entry.direction e) (Entry.session e) g size first (8 + 16 * (n - 1 + tail) + size)))) where
+      front-here : gtp6Rows h g ≡ gtp6Rows (header p) (datagram (datagramIn6 p))
+      front-here = λ i. gtp6Rows (asked .arrived .view i) (here .view i)
+
+      -- of an Echo Request
+      echo6-judged : isEcho (datagram (datagramIn6 p)) ≡ true → Judged (echoPlan6 e p) p (length p) 0 v
+      unfolding echoPlan6 rowsEcho6
+      echo6-judged t = record {
+        rows = echo-verdict p (header p .upperAt) g place size first here (gtp6Rows h g) (Entry.direction e) (Entry.session e) _ v judged t
+            _ front-here;
+        at = refl;
+        within = λ q. omega arith;
+        fits = λ q. omega arith;
+      }
+
+      -- of any other message
+      gPdu6-judged : isEcho (datagram (datagramIn6 p)) ≡ false
+          → Judged (gPduPlan6 tail e policy p) p place (8 + 16 * (n - 1 + tail) + size) v
+      unfolding gPduPlan6 rowsGtp6D
+      gPdu6-judged t =
+          let path = gtp6DPath tail policy (carried6 p) in
+          let k : n - 1 + tail ≡ length path = ap (λ (j : ℕ). j - 1 + tail) hn ∙ sym path-count in
+          let z : size ≡ length (carried6 p .inner) = here .holds ∙ sym (length-drop place p) ∙ ap length inner-here in
+          let bounds = gpdu-bounds p (header p .upperAt) g place size first here (gtp6Rows h g) (Entry.direction e) (Entry.session e) _ v
+          judged t in
+          record {
+            rows = gpdu-verdict p (header p .upperAt) g place size first here (gtp6Rows h g) (Entry.direction e) (Entry.session e) _ v judged
+                t (carried6 p .inner) inner-here _ front-here _ (λ i. 8 + 16 * k i + z i);
+            at = gPdu6-place;
+            within = λ q. bounds q .0;
+            fits = λ q. omega (arith, bounds q .1);
+          }
+
+      -- a refusal, whatever the message is
+      pub gtp6D-refused : (ρ : Refusal) (b : List ℕ) (a : Answer) → v ≡ Refuse ρ → (a ≡ answerOf (Refused ρ)) × (a .size < 65700)
+          → Answered (settle (length b) (atGtp6D tail e policy p)) b a b
+      gtp6D-refused ρ b a q h = go (isEcho (datagram (datagramIn6 p))) refl
+        where
+          go : (echo : Bool) → isEcho (datagram (datagramIn6 p)) ≡ echo → Answered (settle (length b) (atGtp6D tail e policy p)) b a b
+          go true t = plan-refused (echoPlan6 e p) p _ (echo6-carried-out tail e policy p (asked .one) (asked .two) t) (echo6-judged t) ρ b a
+              q h
+          go false t = plan-refused (gPduPlan6 tail e policy p) p _ (gPdu6-carried-out tail e policy p (asked .one) (asked .two) t)
+              (gPdu6-judged t) ρ b a q h
+
+      -- from the view: what is sent where the message is no Echo Request
+      type-here : (echo : Bool) → isEcho g ≡ echo → isEcho (datagram (datagramIn6 p)) ≡ echo
+      type-here echo t = ap (λ (g : Datagram). isEcho g) (sym (here .view)) ∙ t
+
+      pub other6-judged : isEcho g ≡ false → Judged (gPduPlan6 tail e policy p) p place (8 + 16 * (n - 1 + tail) + size) v
+      other6-judged t = gPdu6-judged (type-here false t)
+
+      pub other6-carried-out : isEcho g ≡ false → carryOut (gPduPlan6 tail e policy p) p ≡ atGtp6D tail e policy p
+      other6-carried-out t = gPdu6-carried-out tail e policy p (asked .one) (asked .two) (type-here false t)
+
+      -- the reply to an Echo Request
+      reply-here : ipv6 (h .trafficClass) 22 17 (Entry.hopLimit e) (window p 24 16) (window p 8 16) (echoAnswer (drop (h .upperAt) p))
+          ≡ echoReply6 e p
+      unfolding echoReply6 header
+      reply-here = λ i. ipv6 (asked .arrived .view i .trafficClass) 22 17 (Entry.hopLimit e) (window p 24 16) (window p 8 16)
+          (echoAnswer (drop (asked .arrived .view i .upperAt) p))
+
+      pub echo6-answered : isEcho g ≡ true → v ≡ Pass → {b : List ℕ} {a : Answer} {b′ : List ℕ}
+          → Answered (settle (length b) (Sent (ipv6 (h .trafficClass) 22 17 (Entry.hopLimit e) (window p 24 16) (window p 8 16)
+          (echoAnswer (drop (h .upperAt) p))))) b a b′
+          → Answered (settle (length b) (atGtp6D tail e policy p)) b a b′
+      unfolding echoPlan6
+      echo6-answered t q =
+          let is = type-here true t in
+          plan-replied (echoPlan6 e p) p _ _ (echo6-carried-out tail e policy p (asked .one) (asked .two) is)
+          (sym (echo6-judged is .rows) ∙ q) (all-head (echoReply6 e p) p ∙ sym reply-here)
 
     -- what is written before the inner packet
     module _ (x : Args) (to : List ℕ)
@@ -101,11 +164,11 @@ module _ (e policy : List ℕ) (tail : ℕ) (p : List ℕ) (h : Header) (asked :
         teid = Gtpu.teid (drop k p);
       }) upper-here
 
-      gtp6D-head : headOf (pathPlan tail e policy (h .trafficClass) x first to place size) policy ≡ gtp6DPlan tail e policy p .head
-      unfolding gtp6DPlan pathPlan carried6 carriedBy header
+      gtp6D-head : headOf (pathPlan tail e policy (h .trafficClass) x first to place size) policy ≡ gPduPlan6 tail e policy p .head
+      unfolding gPduPlan6 pathPlan carried6 carriedBy header
       gtp6D-head =
-          let f : first ≡ octet p (innerAt p (header p .upperAt)) = here .starts ∙ ap (octet p) gtp6D-place in
-          let z : size ≡ length p - innerAt p (header p .upperAt) = here .holds ∙ ap (λ (k : ℕ). length p - k) gtp6D-place in
+          let f : first ≡ octet p (innerAt p (header p .upperAt)) = here .starts ∙ ap (octet p) gPdu6-place in
+          let z : size ≡ length p - innerAt p (header p .upperAt) = here .holds ∙ ap (λ (k : ℕ). length p - k) gPdu6-place in
           λ i. headAlong (asked .arrived .view i .trafficClass) (innerProtocol (Entry.session e) (f i ∷ [])) (Entry.hopLimit e)
           (Entry.source e)
           policy 16 (Policy.sidCount policy - 1) tail (lastWithArgs policy (x-here i)) (ht i) (z i)
@@ -148,7 +211,7 @@ module _ (e policy : List ℕ) (tail : ℕ) (p : List ℕ) (h : Header) (asked :
 
       -- of the plan that was made
       pub gtp6D-planned : {plan : PathPlan} → plan ≡ pathPlan tail e policy (h .trafficClass) x first to place size
-          → 8 + 16 * (n - 1 + tail) + size < 65536 → Planned plan policy (gtp6DPlan tail e policy p .head) (48 + 16 * (n - 1 + tail))
+          → 8 + 16 * (n - 1 + tail) + size < 65536 → Planned plan policy (gPduPlan6 tail e policy p .head) (48 + 16 * (n - 1 + tail))
       unfolding pathPlan
       gtp6D-planned {plan} made l = record {
         count = ap (λ (z : PathPlan). 48 + 16 * (z .waypoints + z .tail)) made ∙ ap (λ (k : ℕ). 48 + 16 * (k - 1 + tail)) (sym hn);

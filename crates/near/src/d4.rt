@@ -14,7 +14,7 @@ ghost use Rattle.rules.specs.Octets.{window};
 ghost use Rattle.rules.specs.Rule as Rule;
 ghost use Rattle.rules.specs.Args.{withArgs};
 ghost use Rattle.rules.specs.Answer.{settle, verdict};
-ghost use Rattle.rules.specs.Datagram.{messageRows, gPduRows, innerRows};
+ghost use Rattle.rules.specs.Datagram.{messageRows};
 ghost use Rattle.rules.specs.Session.{innerProtocol};
 ghost use Rattle.rules.specs.E4.{startBehind};
 ghost use Rattle.rules.specs.D4.{addressBehind, gtp4Rows, atD4};
@@ -22,6 +22,7 @@ ghost use Rattle.rules.specs.Plan.{d4Head};
 ghost use Rattle.octets.specs.Run.{Run};
 ghost use Rattle.args.specs.Value.{value};
 ghost use Rattle.answer.specs.Answered.{Answered};
+ghost use Rattle.path.specs.ByType.{typeRows};
 ghost use Rattle.near.specs.Asked.{D4Asked, PutD4};
 
 // An IPv4 header without options: the datagram begins behind it.
@@ -37,7 +38,8 @@ fn judge_outer(h: rules::Header4, g: rules::Datagram) -> Verdict
     Verdict::Pass
 }
 
-// Rows 8 to 15, for an inner packet of `size` octets that begins with `first`, and the length field of what is to be sent.
+// All rows but 16: 8 to 10 and by the type of the message 17, or 11 to 15 for an inner packet of `size` octets that begins with `first`, and
+// the length field of what is to be sent.
 fn judge(
     r: &[u8],
     h: rules::Header4,
@@ -47,8 +49,8 @@ fn judge(
     field: usize,
 ) -> Verdict
     requires { ⌜ length (now r) ≡ 160 ⌝ }
-    ensures { λ v. ⌜ v ≡ verdict (gtp4Rows h g ++ (messageRows g ++ (gPduRows (Rule.direction (now (r .entry))) g ++ innerRows
-        (Rule.session (now (r .entry))) size first field))) ⌝ }
+    ensures { λ v. ⌜ v ≡ verdict (gtp4Rows h g ++ (messageRows g ++ typeRows (Rule.direction (now (r .entry)))
+        (Rule.session (now (r .entry))) g size first field)) ⌝ }
 {
     let outer = judge_outer(h, g);
     match outer {
@@ -149,6 +151,10 @@ pub fn at_d4(r: &[u8], h: rules::Header4, packet: &[u8], out: &mut [u8]) -> Answ
     match v {
         Verdict::Refuse(z) => Answer::refused(z),
         Verdict::Pass => {
+            if echo::is_echo(g) {
+                let tos = octets::octet_or_0(packet, 1);
+                return echo::reply4(packet, DATAGRAM_AT, tos, r[rule::HOP_LIMIT], out);
+            }
             let args = gtpu::args_at(packet, DATAGRAM_AT);
             let from = octets::window4(packet, 12);
             let to = octets::window4(packet, 16);

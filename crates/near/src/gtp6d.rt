@@ -13,11 +13,12 @@ ghost use lib.ListN.{length};
 ghost use Rattle.rules.specs.Entry as Entry;
 ghost use Rattle.rules.specs.SoundRecord.{SoundPolicy};
 ghost use Rattle.rules.specs.Answer.{verdict, settle};
-ghost use Rattle.rules.specs.Datagram.{messageRows, gPduRows, innerRows};
+ghost use Rattle.rules.specs.Datagram.{messageRows};
 ghost use Rattle.rules.specs.Gtp6D.{gtp6Rows};
 ghost use Rattle.rules.specs.Plan.{tailAt, atGtp6D};
 ghost use Rattle.args.specs.Value.{value};
 ghost use Rattle.answer.specs.Answered.{Answered};
+ghost use Rattle.path.specs.ByType.{typeRows};
 ghost use Rattle.near.specs.Asked.{Gtp6DAsked};
 ghost use Rattle.near.specs.Gtp6DPlan.{pathPlan};
 
@@ -47,7 +48,8 @@ fn judge_outer(h: rules::Header, g: rules::Datagram) -> Verdict
     Verdict::Pass
 }
 
-// Rows 5 and 7 to 15, for an inner packet of `size` octets that begins with `first`, and the length field of what is to be sent.
+// All rows but 16: 5, 7 to 10 and by the type of the message 17, or 11 to 15 for an inner packet of `size` octets that begins with `first`, and
+// the length field of what is to be sent.
 fn judge(
     e: &[u8],
     h: rules::Header,
@@ -57,8 +59,8 @@ fn judge(
     field: usize,
 ) -> Verdict
     requires { ⌜ length (now e) ≡ 64 ⌝ }
-    ensures { λ r. ⌜ r ≡ verdict (gtp6Rows h g ++ (messageRows g ++ (gPduRows (Entry.direction (now (e .entry))) g ++ innerRows
-        (Entry.session (now (e .entry))) size first field))) ⌝ }
+    ensures { λ r. ⌜ r ≡ verdict (gtp6Rows h g ++ (messageRows g ++ typeRows (Entry.direction (now (e .entry)))
+        (Entry.session (now (e .entry))) g size first field)) ⌝ }
 {
     let outer = judge_outer(h, g);
     match outer {
@@ -132,6 +134,9 @@ pub fn at_gtp6d(
     match v {
         Verdict::Refuse(r) => Answer::refused(r),
         Verdict::Pass => {
+            if echo::is_echo(g) {
+                return echo::reply6(packet, at, h.trafficClass, e[entry::HOP_LIMIT], out);
+            }
             let args = gtpu::args_at(packet, at);
             let to = octets::window16(packet, 24);
             let plan = plan_of(

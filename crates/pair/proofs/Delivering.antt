@@ -71,11 +71,7 @@ as-many (s ∷ ss) (sid ∷ sids) a = ap suc (as-many ss sids (a .1))
 quiet : (direction : ℕ) (u : List ℕ) → Gtpu.pduType u ≡ direction → direction ≢ downlink → Gtpu.reflective u ≡ 0
 quiet direction u h n = rw (h, ne-eqb direction downlink n) refl
 
--- rows 11 and 13 do not apply
-right-type : (direction : ℕ) (u : List ℕ) → None (gPduRows direction (datagram u)) → Gtpu.messageType u ≡ gPdu
-unfolding gPduRows datagram
-right-type direction u n = omega (read, n)
-
+-- row 13 does not apply
 right-direction : (direction : ℕ) (u : List ℕ) → None (gPduRows direction (datagram u)) → Gtpu.pduType u ≡ direction
 unfolding gPduRows datagram
 right-direction direction u n = omega (read, n)
@@ -84,7 +80,8 @@ right-direction direction u n = omega (read, n)
 
 module _ (near : Stop) (ss : List Stop) (far : Stop) (ws : List (List ℕ)) (i j : ℕ) (c : Compatible6 (near .table) ws (far .table) i j)
     (on : Octets (near .table)) (of : Octets (far .table)) (vn : near .version ≡ v6) (us : Use ss ws) (vf : far .version ≡ v6)
-    (p : List ℕ) (o : Octets p) (m : matchEntry (near .table) (Ipv6.destination p) ≡ At i) (x : List ℕ) (sent : call near p ≡ Sent x) where
+    (p : List ℕ) (o : Octets p) (m : matchEntry (near .table) (Ipv6.destination p) ≡ At i)
+    (type : Gtpu.messageType (datagramIn6 p) ≡ gPdu) (x : List ℕ) (sent : call near p ≡ Sent x) where
   enters6 : AtEntry near (Ipv6.destination p) endMGtp6DDi i
   enters6 = record { call = vn; octets = on; sound = c .fits .nearSound; matches = m; kind = c .fits .enters }
 
@@ -98,7 +95,8 @@ module _ (near : Stop) (ss : List Stop) (far : Stop) (ws : List (List ℕ)) (i j
       let policy = policyOf near i in
       let d = carried6 p in
       let (front, k) = sent-entry near p (Ipv6.destination p) x endMGtp6DDi i enters6 refl sent in
-      Near6.sent-passed e (diPath policy d) (diPacket e policy d) p x front (sym (at-di (near .table) e p (c .fits .enters)) ∙ k) .0 .gPdu
+      let here = sym (at-di (near .table) e p (c .fits .enters)) ∙ k in
+      Near6.sent-passed e (diPath policy d) (diPacket e policy d) p x type front here .0 .gPdu
 
   writable6 : Writable (Entry.direction (entryAt (near .table) i)) (carried6 p .args)
   unfolding carried6 carriedBy
@@ -118,7 +116,7 @@ module _ (near : Stop) (ss : List Stop) (far : Stop) (ws : List (List ℕ)) (i j
       → Matching6 near ss far p i j
   matching6 room = record {
     octets = o;
-    gPdu = right-type (Entry.direction (entryAt (near .table) i)) (datagramIn6 p) no-row6;
+    gPdu = type;
     sent = (x, sent);
     enters = enters6;
     passes = passes6;
@@ -140,7 +138,8 @@ module _ (near : Stop) (ss : List Stop) (far : Stop) (ws : List (List ℕ)) (i j
 
 module _ (near : Stop) (ss : List Stop) (far : Stop) (ws : List (List ℕ)) (k j : ℕ) (c : Compatible4 (near .table) ws (far .table) k j)
     (on : Octets (near .table)) (of : Octets (far .table)) (vn : near .version ≡ v4) (us : Use ss ws) (vf : far .version ≡ v6)
-    (p : List ℕ) (o : Octets p) (m : matchRule (near .table) (Ipv4.destination p) ≡ At k) (x : List ℕ) (sent : call near p ≡ Sent x) where
+    (p : List ℕ) (o : Octets p) (m : matchRule (near .table) (Ipv4.destination p) ≡ At k)
+    (type : Gtpu.messageType (datagramIn4 p) ≡ gPdu) (x : List ℕ) (sent : call near p ≡ Sent x) where
   enters4 : AtRule near (Ipv4.destination p) k
   enters4 = record { call = vn; octets = on; sound = c .fits .nearSound; matches = m }
 
@@ -148,7 +147,7 @@ module _ (near : Stop) (ss : List Stop) (far : Stop) (ws : List (List ℕ)) (k j
   passes4 = use-waypoints ss ws (Rule.waypoints (ruleAt (near .table) k)) us (c .passes)
 
   no-row4 : None (gPduRows (Rule.direction (ruleAt (near .table) k)) (datagram (datagramIn4 p)))
-  no-row4 = Near4.call-passed near p (Ipv4.destination p) k enters4 refl x sent .gPdu
+  no-row4 = Near4.call-passed near p (Ipv4.destination p) k enters4 refl x type sent .gPdu
 
   writable4 : Writable (Rule.direction (ruleAt (near .table) k)) (carried4 p .args)
   unfolding carried4 carriedBy
@@ -180,7 +179,7 @@ module _ (near : Stop) (ss : List Stop) (far : Stop) (ws : List (List ℕ)) (k j
       → Matching4 near ss far p k j
   matching4 room = record {
     octets = o;
-    gPdu = right-type (Rule.direction (ruleAt (near .table) k)) (datagramIn4 p) no-row4;
+    gPdu = type;
     sent = (x, sent);
     enters = enters4;
     passes = passes4;

@@ -1,9 +1,11 @@
-// What D, Di and D4 ask of a G-PDU: rows 9 to 15, each looked at only where those before it pass; and the next header of its inner packet.
+// What D, Di and D4 ask of a message: rows 9 to 15, or 9, 10 and 17 of an Echo Request, each looked at only where those before it pass; and
+// the next header of the inner packet of a G-PDU.
 ghost use mathlib.Core.Path.{_≡_};
 ghost use mathlib.Core.List.{[], _∷_, _++_};
 ghost use Rattle.rules.specs.Answer.{row, verdict};
 ghost use Rattle.rules.specs.Datagram.{badGtpu, messageRows, gPduRows, innerRows};
 ghost use Rattle.rules.specs.Session.{innerProtocol};
+ghost use Rattle.path.specs.ByType.{typeRows};
 use rules::assigned;
 
 // Rows 11 to 15, of an inner packet of `size` octets that begins with `first`, and the length field of what is to be sent.
@@ -24,7 +26,24 @@ fn judge_pdu(
     }
 }
 
-// Rows 10 to 15.
+// Rows behind row 10, by the type of the message.
+fn judge_type(
+    direction: u8,
+    session: u8,
+    g: rules::Datagram,
+    size: usize,
+    first: u8,
+    field: usize,
+) -> rules::Verdict
+    ensures { λ r. ⌜ r ≡ verdict (typeRows direction session g size first field) ⌝ }
+{
+    if echo::is_echo(g) {
+        return echo::judge(g);
+    }
+    judge_pdu(direction, session, g, size, first, field)
+}
+
+// Row 10 and those behind it.
 fn judge_message(
     direction: u8,
     session: u8,
@@ -33,16 +52,16 @@ fn judge_message(
     first: u8,
     field: usize,
 ) -> rules::Verdict
-    ensures { λ r. ⌜ r ≡ verdict (row (badGtpu g) 10 ∷ (gPduRows direction g ++ innerRows session size first field)) ⌝ }
+    ensures { λ r. ⌜ r ≡ verdict (row (badGtpu g) 10 ∷ typeRows direction session g size first field) ⌝ }
 {
     let message = gtpu::judge_gtpu(g);
     match message {
         rules::Verdict::Refuse(r) => rules::Verdict::Refuse(r),
-        rules::Verdict::Pass => judge_pdu(direction, session, g, size, first, field),
+        rules::Verdict::Pass => judge_type(direction, session, g, size, first, field),
     }
 }
 
-// Rows 9 to 15.
+// Row 9 and those behind it.
 pub fn judge(
     direction: u8,
     session: u8,
@@ -51,7 +70,7 @@ pub fn judge(
     first: u8,
     field: usize,
 ) -> rules::Verdict
-    ensures { λ r. ⌜ r ≡ verdict (messageRows g ++ (gPduRows direction g ++ innerRows session size first field)) ⌝ }
+    ensures { λ r. ⌜ r ≡ verdict (messageRows g ++ typeRows direction session g size first field) ⌝ }
 {
     let udp = gtpu::judge_udp(g);
     match udp {

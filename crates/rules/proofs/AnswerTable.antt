@@ -15,19 +15,21 @@ use Rattle.rules.specs.Ipv4 as Ipv4
 use Rattle.rules.specs.Match.{matchEntry, matchRule}
 use Rattle.rules.specs.Answer.{Row, any, verdict, place, inPlace, Decision, inRoom, roomRow}
 use Rattle.rules.specs.Header.{header}
-use Rattle.rules.specs.Datagram.{innerRows, messageRows, gPduRows}
-use Rattle.rules.specs.Carried.{carried6}
+use Rattle.rules.specs.Datagram.{datagram, innerRows, messageRows, gPduRows}
+use Rattle.rules.specs.Carried.{carried6, datagramIn6, datagramIn4}
+use Rattle.rules.specs.Echo.{isEcho, byType, echoRows}
 use Rattle.rules.specs.Waypoint.{waypointRows, stepRows, decideWaypoint}
-use Rattle.rules.specs.Gtp6D.{gtp6Rows, rowsGtp6D, decideGtp6D}
+use Rattle.rules.specs.Gtp6D.{gtp6Rows, rowsGtp6D, rowsEcho6, decideGPdu6, decideEcho6, decideGtp6D}
 use Rattle.rules.specs.D.{dPath, dPacket, decideD}
 use Rattle.rules.specs.Di.{diPath, diPacket, decideDi}
 use Rattle.rules.specs.E6.{e6Rows, rowsE6, decideE6}
 use Rattle.rules.specs.E4.{e4Rows, rowsE4, decideE4}
-use Rattle.rules.specs.D4.{gtp4Rows, rowsD4, decideD4}
+use Rattle.rules.specs.D4.{gtp4Rows, rowsD4, rowsEcho4, decideGPdu4, decideEcho4, decideD4}
 use Rattle.rules.specs.Header4.{header4}
 use Rattle.rules.specs.Calls.{decideEntry, decideFoundEntry, decideFoundRule, frontRows6, frontRows4, rows6, rows4}
 use Rattle.rules.specs.Refused.{upperAt}
 use Rattle.rules.specs.Given.{icmp, withoutIcmp, withIcmp}
+use Rattle.rules.specs.declared.Datagram.{Datagram}
 use Rattle.rules.specs.declared.Refusal.{Refusal}
 use Rattle.rules.specs.declared.Verdict.the-variants.{Refuse}
 use Rattle.rules.specs.declared.Found.{Found}
@@ -45,7 +47,12 @@ module _ (p : List ℕ) where
   unfolding waypointRows stepRows header
   waypoint-refusals = refl
 
-  -- D and Di
+  -- D and Di, for an Echo Request and for any other message
+  pub echo6-refusals : refusals (rowsEcho6 p)
+      ≡ icmp 5 0 0 0 ∷ icmp 7 4 0 43 ∷ icmp 8 4 4 (upperAt p) ∷ icmp 9 0 0 0 ∷ icmp 10 0 0 0 ∷ icmp 17 0 0 0 ∷ []
+  unfolding rowsEcho6 gtp6Rows messageRows echoRows header
+  echo6-refusals = refl
+
   pub gtp6-refusals : (e : List ℕ) (path : List (List ℕ)) → refusals (rowsGtp6D e path p)
       ≡ icmp 5 0 0 0 ∷ icmp 7 4 0 43 ∷ icmp 8 4 4 (upperAt p) ∷ icmp 9 0 0 0 ∷ icmp 10 0 0 0 ∷ icmp 11 0 0 0 ∷ icmp 12 0 0 0 ∷ icmp 13 0 0 0
       ∷ icmp 14 0 0 0 ∷ icmp 15 0 0 0 ∷ []
@@ -62,17 +69,21 @@ module _ (p : List ℕ) where
   unfolding rowsE4 e4Rows header
   e4-refusals e = refl
 
-  pub d4-refusals : (r : List ℕ) → refusals (decideD4 r p .rows)
+  pub echo4-refusals : refusals (rowsEcho4 p) ≡ icmp 8 0 0 0 ∷ icmp 9 0 0 0 ∷ icmp 10 0 0 0 ∷ icmp 17 0 0 0 ∷ []
+  unfolding rowsEcho4 gtp4Rows messageRows echoRows
+  echo4-refusals = refl
+
+  pub d4-refusals : (r : List ℕ) → refusals (rowsD4 r p)
       ≡ icmp 8 0 0 0 ∷ icmp 9 0 0 0 ∷ icmp 10 0 0 0 ∷ icmp 11 0 0 0 ∷ icmp 12 0 0 0 ∷ icmp 13 0 0 0 ∷ icmp 14 0 0 0 ∷ icmp 15 0 0 0 ∷ []
   unfolding rowsD4 gtp4Rows messageRows gPduRows innerRows
   d4-refusals r = refl
 
 -- BOTH CALLS
 
--- what a refusal of the list is (docs/RULES.md, Answers): its number is from 1 to 16, its ICMP fields are those of the number
+-- what a refusal of the list is (docs/RULES.md, Answers): its number is from 1 to 17, its ICMP fields are those of the number
 pub record Proper (refusalOf : ℕ → Refusal) (r : Refusal) : Type 0 where
   pub least : 1 ≤ r .number
-  pub most : r .number ≤ 16
+  pub most : r .number ≤ 17
   pub fields : r ≡ refusalOf (r .number)
 
 abbrev pub EachProper : (refusalOf : ℕ → Refusal) → List Row → Type 0
@@ -115,15 +126,23 @@ entry-cases P t e p w d i s f = go (eqb b end) (eqb b endMGtp6D) (eqb b endMGtp6
     go false false false true = s
     go false false false false = f
 
+-- the types of a message
+pub by-type : (P : Decision → Type 0) (g : Datagram) (echo other : Decision) → P echo → P other → P (byType g echo other)
+by-type P g echo other a b = go (isEcho g)
+  where
+    go : (is : Bool) → P (cond is echo other)
+    go true = a
+    go false = b
+
 -- ROWS AT HAND, BY COMPUTATION
 
 abbrev numbered : ℕ → Bool
-numbered n = leb 1 n && leb n 16
+numbered n = leb 1 n && leb n 17
 
 proper : {refusalOf : ℕ → Refusal} {r : Refusal} → numbered (r .number) ≡ true → r ≡ refusalOf (r .number) → Proper refusalOf r
 proper {refusalOf} {r} h e = record {
-  least = leb-true _ _ (and-left (leb 1 (r .number)) (leb (r .number) 16) h);
-  most = leb-true _ _ (and-right (leb 1 (r .number)) (leb (r .number) 16) h);
+  least = leb-true _ _ (and-left (leb 1 (r .number)) (leb (r .number) 17) h);
+  most = leb-true _ _ (and-right (leb 1 (r .number)) (leb (r .number) 17) h);
   fields = e;
 }
 
@@ -157,9 +176,16 @@ module _ (p t : List ℕ) (room : ℕ) where
   unfolding waypointRows stepRows header place
   waypoint-tabled = tabled refl refl refl
 
-  gtp6-tabled : (e made : List ℕ) (path : List (List ℕ)) → Entered (decideGtp6D e path made p)
+  echo6-tabled : (e : List ℕ) → Entered (decideEcho6 e p)
+  unfolding rowsEcho6 gtp6Rows messageRows echoRows header place
+  echo6-tabled e = tabled refl refl refl
+
+  gPdu6-tabled : (e made : List ℕ) (path : List (List ℕ)) → Entered (decideGPdu6 e path made p)
   unfolding rowsGtp6D gtp6Rows messageRows gPduRows innerRows header place
-  gtp6-tabled e made path = tabled refl refl refl
+  gPdu6-tabled e made path = tabled refl refl refl
+
+  gtp6-tabled : (e made : List ℕ) (path : List (List ℕ)) → Entered (decideGtp6D e path made p)
+  gtp6-tabled e made path = by-type Entered (datagram (datagramIn6 p)) _ _ (echo6-tabled e) (gPdu6-tabled e made path)
 
   e6-tabled : (e : List ℕ) → Entered (decideE6 e p)
   unfolding rowsE6 e6Rows header place
@@ -190,9 +216,19 @@ module _ (p t : List ℕ) (room : ℕ) where
 
 -- over IPv4
 module _ (p t : List ℕ) (room : ℕ) where
-  rule-tabled : (r : List ℕ) → Tabled withoutIcmp 4 (inRoom room (decideD4 r p) .rows)
+  abbrev Ruled : Decision → Type 0
+  Ruled d = Tabled withoutIcmp 4 (inRoom room d .rows)
+
+  echo4-tabled : (r : List ℕ) → Ruled (decideEcho4 r p)
+  unfolding rowsEcho4 gtp4Rows messageRows echoRows place
+  echo4-tabled r = tabled refl refl refl
+
+  gPdu4-tabled : (r : List ℕ) → Ruled (decideGPdu4 r p)
   unfolding rowsD4 gtp4Rows messageRows gPduRows innerRows place
-  rule-tabled r = tabled refl refl refl
+  gPdu4-tabled r = tabled refl refl refl
+
+  rule-tabled : (r : List ℕ) → Ruled (decideD4 r p)
+  rule-tabled r = by-type Ruled (datagram (datagramIn4 p)) _ _ (echo4-tabled r) (gPdu4-tabled r)
 
   pub tabled4 : Tabled withoutIcmp 0 (rows4 p t room)
   unfolding rows4 frontRows4 decideFoundRule place

@@ -1,4 +1,4 @@
--- The tests of rows 8 to 14 that ask of a UDP datagram hold exactly where Refused.antt says that the number is given.
+-- The tests of rows 8 to 14 and 17 that ask of a UDP datagram hold exactly where Refused.antt says that the number is given.
 use mathlib.Core.Path.{_≡_}
 use mathlib.Core.Logic.{_≢_}
 use mathlib.Core.Bool.{Bool, true, false, _&&_}
@@ -11,12 +11,13 @@ use lib.Dec.{eqb, leb, ltb}
 use lib.ListN.{length, getD}
 use borrow.Author.Tests.{ltb-true, leb-true, eqb-true, not-true, lt-ltb, le-leb, eq-eqb, ne-eqb, le-ltb, ltb-false}
 use Rattle.rules.specs.Exactly.{Exactly}
-use Rattle.rules.specs.Octets.{octet}
+use Rattle.rules.specs.Octets.{octet, window, number}
 use Rattle.rules.specs.Gtpu as Gtpu
 use Rattle.rules.specs.Answer.{differs, given, any}
 use Rattle.rules.specs.Datagram.{datagram, notGtpu, badUdp, badGtpu, extended, badExtensions, badContainer, badInner}
 use Rattle.rules.specs.Refused.{NotGtpu, BadUdp}
-use Rattle.rules.specs.Refused.{BadGtpu, BadExtension, BadContainer, BadInner}
+use Rattle.rules.specs.Echo.{badEcho}
+use Rattle.rules.specs.Refused.{BadGtpu, BadEcho, BadExtension, BadContainer, BadInner}
 use Rattle.rules.proofs.Conditions.{and-left, and-right, _also_}
 use Rattle.rules.proofs.Exact.{and-not, differs-true, ne-differs, only, Leads, leads-given, any-leads}
 use Rattle.rules.proofs.Exact.{any-at, any-from, any-under}
@@ -106,6 +107,23 @@ module _ (u : List ℕ) where
   pub row-11 : Exactly (any (differs (datagram u .messageType) 255 ∷ [])) (Gtpu.messageType u ≢ 255)
   unfolding datagram
   row-11 = only (differs (Gtpu.messageType u) 255) (Gtpu.messageType u ≢ 255) (differs-true _ _) (ne-differs _ _)
+
+  pub row-17 : Exactly (any (badEcho (datagram u))) (BadEcho u)
+  unfolding datagram window number
+  row-17 = (any-leads (BadEcho u) ts leads, back)
+    where
+      ts : List Bool
+      ts = differs (Gtpu.sequenceFlag u) 1 ∷ differs (number u 12 4) 0 ∷ []
+
+      leads : Leads (BadEcho u) ts
+      leads =
+          (λ e. BadEcho.noSequenceNumber (omega (arith, differs-true (Gtpu.sequenceFlag u) 1 e)))
+          also (λ e. BadEcho.teid (differs-true _ _ e))
+          also tt
+
+      back : BadEcho u → any ts ≡ true
+      back (BadEcho.noSequenceNumber h) = any-at ts 0 (ne-differs (Gtpu.sequenceFlag u) 1 (λ e. omega (arith, e, h)))
+      back (BadEcho.teid h) = any-at ts 1 (ne-differs _ _ h)
 
   -- an extension is there
   is-extended : Gtpu.extensionFlag u ≡ 1 → Gtpu.extensionType u ≢ 0 → extended (datagram u) ≡ true

@@ -160,7 +160,8 @@ demand3-ipv6 near ss far p i j m =
     let v = carried6-valid p (m .octets) in
     let none = carried6-source p in
     let (front, k) = sent-entry near p (Ipv6.destination p) (m .sent .0) endMGtp6DDi i (m .enters) refl (m .sent .1) in
-    let (n, _) = sent-passed e (diPath y c) (diPacket e y c) p (m .sent .0) front (sym (at-di (near .table) e p (m .enters .kind)) ∙ k) in
+    let here = sym (at-di (near .table) e p (m .enters .kind)) ∙ k in
+    let (n, _) = sent-passed e (diPath y c) (diPacket e y c) p (m .sent .0) (m .gPdu) front here in
     let quiet : cond (eqb (Entry.direction f) downlink) 0 (c .args .reflective) ≡ 0 =
     rw (m .direction) (passed-quiet e (diPath y c) (diPacket e y c) p n) in
     let back = back-values f c v none quiet in

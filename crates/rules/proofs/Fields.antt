@@ -112,10 +112,10 @@ e6-written e c v =
 -- E4
 
 module _ (class total hop : ℕ) (s d rest : List ℕ) (hs : length s ≡ 4) (hd : length d ≡ 4) where
-  ipv4-drop : drop 20 (ipv4 class total hop s d rest) ≡ rest
+  pub ipv4-drop : drop 20 (ipv4 class total hop s d rest) ≡ rest
   ipv4-drop = drop-past s (d ++ rest) 4 4 hs ∙ drop-past d rest 4 0 hd
 
-  ipv4-fields : class < 256 → total < 65536 → hop < 256 → Octets s → Octets d → 20 + length rest ≡ total
+  pub ipv4-fields : class < 256 → total < 65536 → hop < 256 → Octets s → Octets d → 20 + length rest ≡ total
       → Ipv4Fields (ipv4 class total hop s d rest) class total hop s d
   unfolding window
   ipv4-fields hc ht hh os od hr = record {

@@ -43,14 +43,14 @@ no-row-0 refusalOf (r ∷ rs) each =
     rw (ne-eqb 0 (r .refusal .number) (λ e. omega (arith, each .0 .least, e))) (no-row-0 refusalOf rs (each .1))
 
 smallest : (refusalOf : ℕ → Refusal) (d : Decision) → Tabled refusalOf 0 (d .rows) → Smallest (λ n. applies n (d .rows)) (outcome d)
-smallest refusalOf d t r h n l = pick (ℕ-discrete n 0)
+smallest refusalOf d t r h n l b = pick (ℕ-discrete n 0)
   where
     q : Proper refusalOf r
     q = verdict-proper refusalOf (d .rows) r (t .each) (after-refused (verdict (d .rows)) (d .packet) r h)
 
     pick : Dec (n ≡ 0) → applies n (d .rows) ≡ false
     pick (yes e) = ap (λ (m : ℕ). applies m (d .rows)) e ∙ no-row-0 refusalOf (d .rows) (t .each)
-    pick (no c) = goes-by d (t .order) .refused r h .before n (smaller-before n (r .number) (omega arith) l (q .most))
+    pick (no c) = goes-by d (t .order) .refused r h .before n (smaller-before n (r .number) (omega arith) l (q .most) b)
 
 pub smallest6 : (p t : List ℕ) (room : ℕ) → Smallest (λ n. applies n (rows6 p t room)) (translate6 p t room)
 unfolding translate6 rows6

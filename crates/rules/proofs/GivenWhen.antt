@@ -4,6 +4,7 @@ use mathlib.Core.Bool.{Bool, true, false, not, _||_, true≢false}
 use mathlib.Core.List.{List, [], _∷_, _++_}
 use Prim.Native.Nat.{ℕ, _+_, _-_, _*_, _≤_, _<_}
 use native.Mathlib.Omega.{arith}
+use native.Mathlib.Decide.{ℕ-discrete}
 use lib.Dec.{ltb}
 use lib.ListN.{length, drop}
 use borrow.Author.Tests.{eqb-true, eq-eqb}
@@ -26,16 +27,17 @@ use Rattle.rules.specs.Datagram.{innerRows, messageRows, gPduRows}
 use Rattle.rules.specs.Carried.{carriedBy, carried6, carried4}
 use Rattle.rules.specs.Srv6.{pastWaypointsPayload}
 use Rattle.rules.specs.Waypoint.{forwarded, waypointRows, stepRows, decideWaypoint}
-use Rattle.rules.specs.Gtp6D.{gtp6Rows, rowsGtp6D, decideGtp6D}
+use Rattle.rules.specs.Echo.{echoRows, echoReply6, echoReply4}
+use Rattle.rules.specs.Gtp6D.{gtp6Rows, rowsGtp6D, rowsEcho6, decideGPdu6, decideEcho6, decideGtp6D}
 use Rattle.rules.specs.D.{lastWithArgs, dPath, dPacket, decideD}
 use Rattle.rules.specs.Di.{diPath, diPacket, decideDi}
 use Rattle.rules.specs.E6.{e6Carried, e6Packet, e6Rows, rowsE6, decideE6}
 use Rattle.rules.specs.E4.{e4Carried, e4Packet, e4Rows, rowsE4, decideE4}
-use Rattle.rules.specs.D4.{d4Packet, gtp4Rows, rowsD4, decideD4}
+use Rattle.rules.specs.D4.{d4Packet, gtp4Rows, rowsD4, rowsEcho4, decideGPdu4, decideEcho4, decideD4}
 use Rattle.rules.specs.Header4.{header4, malformed4, badHeader4}
 use Rattle.rules.specs.Calls.{unsoundRow, nothing, decideEntry, decideFoundEntry, decideFoundRule}
 use Rattle.rules.specs.Calls.{frontRows6, frontRows4, rows6, rows4}
-use Rattle.rules.specs.Refused.{upper, behind, NoEntry, NoRule, GivenWaypoint, GivenGtp6D}
+use Rattle.rules.specs.Refused.{upper, behind, NoEntry, NoRule, Echo, GivenWaypoint, GivenGtp6D}
 use Rattle.rules.specs.Refused.{GivenE6, GivenE4, GivenD4, GivenAtEntry, Given6, Given4}
 use Rattle.rules.specs.declared.Found.{Found}
 use Rattle.rules.specs.declared.Found.the-variants.{At, Nothing}
@@ -57,11 +59,19 @@ use Rattle.rules.proofs.SentFields.{e6Carried-valid, e4Carried-valid}
 use Rattle.rules.proofs.Fields.{waypoint-written}
 use Rattle.rules.proofs.Refusals.{row-2, row-2-ipv4, row-3, row-5, row-5-e6, row-6, row-7, row-7-e6, row-7-waypoint, row-8-waypoint}
 use Rattle.rules.proofs.Refusals.{row-8-session}
-use Rattle.rules.proofs.DatagramRefusals.{row-8, row-9, row-10, row-11, row-12, row-13, row-14}
+use Rattle.rules.proofs.DatagramRefusals.{row-8, row-9, row-10, row-11, row-17, row-12, row-13, row-14}
+use Rattle.rules.proofs.Echoes.{echo-decides6, other-decides6, echo-decides4, other-decides4, reply6-size, reply4-size}
 
 -- a limit and a number said otherwise
 over-as : (a b c : ℕ) → b ≡ c → Exactly (ltb a b || false) (a < c)
 over-as a b c e = subst (λ (n : ℕ). Exactly (ltb a b || false) (a < n)) e (over a b)
+
+-- a statement that is made under a condition: where that holds, and where it does not
+where-true : {C P : Type 0} {b : Bool} → C → Exactly b P → Exactly b (C × P)
+where-true {C} {P} c (f, g) = (λ h. (c, f h), λ (s : C × P). g (s .1))
+
+where-false : {C P : Type 0} → (C → ⊥) → Exactly false (C × P)
+where-false {C} {P} n = (λ h. absurd (true≢false (sym h)), λ (s : C × P). absurd (n (s .0)))
 
 -- rows 1, 2 and 4, those of an entry, and row 16
 module _ (p t : List ℕ) (room : ℕ) where
@@ -76,14 +86,38 @@ module _ (p t : List ℕ) (room : ℕ) where
     row7 = row-7-waypoint p;
     row8 = row-8-waypoint p;
     row16 = λ h. over-as room (length (forwarded p)) (length p) (waypoint-written p (omega arith) .size);
-    never = (refl, (refl, (refl, (refl, (refl, (refl, (refl, (refl, tt))))))));
+    never = (refl, (refl, (refl, (refl, (refl, (refl, (refl, (refl, (refl, tt)))))))));
   }
 
-  gtp6-given : (e made : List ℕ) (path : List (List ℕ)) (segments : ℕ) → length path ≡ segments
+  -- D and Di, for an Echo Request, for any other message, and by its type
+  echo6-given : (e : List ℕ) (segments : ℕ) → Echo (behind p) → GivenGtp6D e p segments room (λ n. applies n (rowsWith (decideEcho6 e p)))
+  unfolding rowsEcho6 gtp6Rows messageRows echoRows header echoReply6
+  echo6-given e segments t =
+      let u = behind p in
+      record {
+        row5 = row-5 p;
+        row7 = row-7 p;
+        row8 = row-8 u (upper p);
+        datagram = record {
+          row9 = row-9 u;
+          row10 = row-10 u;
+          row17 = where-true t (row-17 u);
+          row11 = where-false (λ n. n t);
+          row12 = where-false (λ n. n t);
+          row13 = where-false (λ n. n t);
+          row14 = where-false (λ n. n t);
+        };
+        row15 = where-false (λ n. n t);
+        row16 = λ n. absurd (n t);
+        row16Echo = λ h. over-as room (length (echoReply6 e p)) 62 (reply6-size e p);
+        never = (refl, (refl, tt));
+      }
+
+  gPdu6-given : (e made : List ℕ) (path : List (List ℕ)) (segments : ℕ) → (Echo (behind p) → ⊥) → length path ≡ segments
       → length made ≡ 40 + (8 + 16 * segments + length (carried6 p .inner))
-      → GivenGtp6D e p segments room (λ n. applies n (rowsWith (decideGtp6D e path made p)))
+      → GivenGtp6D e p segments room (λ n. applies n (rowsWith (decideGPdu6 e path made p)))
   unfolding rowsGtp6D gtp6Rows messageRows gPduRows innerRows header carried6 carriedBy
-  gtp6-given e made path segments hl hm =
+  gPdu6-given e made path segments other hl hm =
       let u = behind p in
       let inner = Gtpu.innerOf u in
       record {
@@ -93,15 +127,31 @@ module _ (p t : List ℕ) (room : ℕ) where
         datagram = record {
           row9 = row-9 u;
           row10 = row-10 u;
-          row11 = row-11 u;
-          row12 = row-12 u;
-          row13 = row-13 u (Entry.direction e);
-          row14 = row-14 (Entry.session e) inner;
+          row17 = where-false other;
+          row11 = where-true other (row-11 u);
+          row12 = where-true other (row-12 u);
+          row13 = where-true other (row-13 u (Entry.direction e));
+          row14 = where-true other (row-14 (Entry.session e) inner);
         };
-        row15 = over-as 65535 (8 + 16 * length path + length inner) (8 + 16 * segments + length inner) (omega arith);
-        row16 = over-as room (length made) (48 + 16 * segments + length inner) (omega arith);
+        row15 = where-true other (over-as 65535 (8 + 16 * length path + length inner) (8 + 16 * segments + length inner) (omega arith));
+        row16 = λ n. over-as room (length made) (48 + 16 * segments + length inner) (omega arith);
+        row16Echo = λ t. absurd (other t);
         never = (refl, (refl, tt));
       }
+
+  gtp6-given : (e made : List ℕ) (path : List (List ℕ)) (segments : ℕ) → length path ≡ segments
+      → length made ≡ 40 + (8 + 16 * segments + length (carried6 p .inner))
+      → GivenGtp6D e p segments room (λ n. applies n (rowsWith (decideGtp6D e path made p)))
+  unfolding header
+  gtp6-given e made path segments hl hm = go (ℕ-discrete (Gtpu.messageType (behind p)) 1)
+    where
+      there : (d : Decision) → decideGtp6D e path made p ≡ d → GivenGtp6D e p segments room (λ n. applies n (rowsWith d))
+          → GivenGtp6D e p segments room (λ n. applies n (rowsWith (decideGtp6D e path made p)))
+      there d q h = subst (λ (d : Decision). GivenGtp6D e p segments room (λ n. applies n (rowsWith d))) (sym q) h
+
+      go : Dec (Echo (behind p)) → GivenGtp6D e p segments room (λ n. applies n (rowsWith (decideGtp6D e path made p)))
+      go (yes t) = there (decideEcho6 e p) (echo-decides6 e path made p t) (echo6-given e segments t)
+      go (no n) = there (decideGPdu6 e path made p) (other-decides6 e path made p n) (gPdu6-given e made path segments n hl hm)
 
   e6-given : (e : List ℕ) → Octets p → GivenE6 e p room (λ n. applies n (rowsWith (decideE6 e p)))
   unfolding rowsE6 e6Rows header e6Carried
@@ -113,7 +163,7 @@ module _ (p t : List ℕ) (room : ℕ) where
     row16 =
         let c = e6Carried e p in
         over-as room (length (e6Packet e c)) (64 + length (behind p)) (e6-length e c (e6Carried-valid e p o));
-    never = (refl, (refl, (refl, (refl, (refl, (refl, (refl, (refl, tt))))))));
+    never = (refl, (refl, (refl, (refl, (refl, (refl, (refl, (refl, (refl, tt)))))))));
   }
 
   e4-given : (e : List ℕ) → Octets p → GivenE4 e p room (λ n. applies n (rowsWith (decideE4 e p)))
@@ -127,7 +177,7 @@ module _ (p t : List ℕ) (room : ℕ) where
         let c = e4Carried e p in
         let l = window-length (Ipv6.source p) (Entry.q e) 4 in
         over-as room (length (e4Packet e c)) (44 + length (behind p)) (e4-length e c (e4Carried-valid e p o) l);
-    never = (refl, (refl, (refl, (refl, (refl, (refl, (refl, (refl, tt))))))));
+    never = (refl, (refl, (refl, (refl, (refl, (refl, (refl, (refl, (refl, tt)))))))));
   }
 
   -- the rows of the call, where an entry is found
@@ -236,14 +286,37 @@ plain-payload [] inner e = refl
 plain-payload (w ∷ ws) inner e = absurd (omega arith)
 
 module _ (r p t : List ℕ) (room : ℕ) where
-  abbrev rowsWith4 : List Row
-  rowsWith4 =
-      unsoundRow t ∷ row (malformed4 (header4 p)) 2 ∷ row (badHeader4 (header4 p)) 3 ∷ row (false ∷ []) 4
-      ∷ inRoom room (decideD4 r p) .rows
+  abbrev rowsWith4 : Decision → List Row
+  rowsWith4 d =
+      unsoundRow t ∷ row (malformed4 (header4 p)) 2 ∷ row (badHeader4 (header4 p)) 3 ∷ row (false ∷ []) 4 ∷ inRoom room d .rows
 
-  d4-given : Octets p → Rule.p r ≤ 7 → Rule.q r ≤ 12 → GivenD4 r p room (λ n. applies n rowsWith4)
+  echo4-given : Echo (drop 20 p) → GivenD4 r p room (λ n. applies n (rowsWith4 (decideEcho4 r p)))
+  unfolding rowsEcho4 gtp4Rows messageRows echoRows header4 echoReply4
+  echo4-given t =
+      let u = drop 20 p in
+      record {
+        row8 = row-8 u (Ipv4.protocol p);
+        datagram = record {
+          row9 = row-9 u;
+          row10 = row-10 u;
+          row17 = where-true t (row-17 u);
+          row11 = where-false (λ n. n t);
+          row12 = where-false (λ n. n t);
+          row13 = where-false (λ n. n t);
+          row14 = where-false (λ n. n t);
+        };
+        row15Past = λ h. where-false (λ n. n t);
+        row16Past = λ n h. absurd (n t);
+        row15Plain = λ h. where-false (λ n. n t);
+        row16Plain = λ n h. absurd (n t);
+        row16Echo = λ h. over-as room (length (echoReply4 r p)) 42 (reply4-size r p);
+        never = (refl, (refl, (refl, tt)));
+      }
+
+  gPdu4-given : (Echo (drop 20 p) → ⊥) → Octets p → Rule.p r ≤ 7 → Rule.q r ≤ 12
+      → GivenD4 r p room (λ n. applies n (rowsWith4 (decideGPdu4 r p)))
   unfolding rowsD4 gtp4Rows messageRows gPduRows innerRows header4 carried4 carriedBy
-  d4-given o hp hq =
+  gPdu4-given other o hp hq =
       let u = drop 20 p in
       let inner = Gtpu.innerOf u in
       let n = Rule.waypointCount r in
@@ -257,17 +330,30 @@ module _ (r p t : List ℕ) (room : ℕ) where
         datagram = record {
           row9 = row-9 u;
           row10 = row-10 u;
-          row11 = row-11 u;
-          row12 = row-12 u;
-          row13 = row-13 u (Rule.direction r);
-          row14 = row-14 (Rule.session r) inner;
+          row17 = where-false other;
+          row11 = where-true other (row-11 u);
+          row12 = where-true other (row-12 u);
+          row13 = where-true other (row-13 u (Rule.direction r));
+          row14 = where-true other (row-14 (Rule.session r) inner);
         };
-        row15Past = λ h. over-as 65535 payload (8 + 16 * (n + 1) + length inner) (past-payload ws inner n ln h);
-        row16Past = λ h. over-as room (length (d4Packet r c)) (48 + 16 * (n + 1) + length inner) (w .past h .ipv6 .size ∙ omega arith);
-        row15Plain = λ h. over-as 65535 payload (length inner) (plain-payload ws inner (ln ∙ h));
-        row16Plain = λ h. over-as room (length (d4Packet r c)) (40 + length inner) (w .plain h .ipv6 .size);
+        row15Past = λ h. where-true other (over-as 65535 payload (8 + 16 * (n + 1) + length inner) (past-payload ws inner n ln h));
+        row16Past = λ e h. over-as room (length (d4Packet r c)) (48 + 16 * (n + 1) + length inner) (w .past h .ipv6 .size ∙ omega arith);
+        row15Plain = λ h. where-true other (over-as 65535 payload (length inner) (plain-payload ws inner (ln ∙ h)));
+        row16Plain = λ e h. over-as room (length (d4Packet r c)) (40 + length inner) (w .plain h .ipv6 .size);
+        row16Echo = λ t. absurd (other t);
         never = (refl, (refl, (refl, tt)));
       }
+
+  d4-given : Octets p → Rule.p r ≤ 7 → Rule.q r ≤ 12 → GivenD4 r p room (λ n. applies n (rowsWith4 (decideD4 r p)))
+  d4-given o hp hq = go (ℕ-discrete (Gtpu.messageType (drop 20 p)) 1)
+    where
+      there : (d : Decision) → decideD4 r p ≡ d → GivenD4 r p room (λ n. applies n (rowsWith4 d))
+          → GivenD4 r p room (λ n. applies n (rowsWith4 (decideD4 r p)))
+      there d q h = subst (λ (d : Decision). GivenD4 r p room (λ n. applies n (rowsWith4 d))) (sym q) h
+
+      go : Dec (Echo (drop 20 p)) → GivenD4 r p room (λ n. applies n (rowsWith4 (decideD4 r p)))
+      go (yes t) = there (decideEcho4 r p) (echo-decides4 r p t) (echo4-given t)
+      go (no n) = there (decideGPdu4 r p) (other-decides4 r p n) (gPdu4-given n o hp hq)
 
 pub given-when4 : (p t : List ℕ) (room : ℕ) → Octets p → Octets t → Given4 p t room (λ n. applies n (rows4 p t room))
 unfolding rows4 frontRows4 decideFoundRule
@@ -289,7 +375,7 @@ given-when4 p t room op ot =
     fourth Nothing b = only-nothing Nothing (NoRule p t) (row-4-ipv4 p t Nothing b)
     fourth (At k) b = only-nothing (At k) (NoRule p t) (row-4-ipv4 p t (At k) b)
 
-    found : (k : ℕ) → matchRule t (Ipv4.destination p) ≡ At k → rows4 p t room ≡ rowsWith4 (ruleAt t k) p t room
+    found : (k : ℕ) → matchRule t (Ipv4.destination p) ≡ At k → rows4 p t room ≡ rowsWith4 (ruleAt t k) p t room (decideD4 (ruleAt t k) p)
     found k m = ap rowsAt m
       where
         rowsAt : Found → List Row

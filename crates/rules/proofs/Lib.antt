@@ -23,6 +23,7 @@ pub mod Sessions
 pub mod Checksums
 pub mod Splices
 pub mod Fields
+pub mod Echoes
 pub mod Paths
 pub mod Plans
 pub mod Again

@@ -8,19 +8,20 @@ use lib.Dec.{eqb}
 use lib.ListN.{length, length-drop}
 use borrow.Author.Tests.{le-leb, not-false, eqb-false}
 use Rattle.rules.specs.Octets.{octet, Octets, window}
-use Rattle.rules.specs.Assigned.{udpProtocol, downlink}
+use Rattle.rules.specs.Assigned.{udpProtocol, downlink, gPdu}
 use Rattle.rules.specs.Table.{ruleAt}
 use Rattle.rules.specs.Entry as Entry
 use Rattle.rules.specs.Rule as Rule
 use Rattle.rules.specs.Ipv4 as Ipv4
 use Rattle.rules.specs.Ipv4.{ipv4}
+use Rattle.rules.specs.Gtpu as Gtpu
 use Rattle.rules.specs.Gtpu.{datagramOctets}
 use Rattle.rules.specs.Sound.{sound}
 use Rattle.rules.specs.Match.{matchRule}
-use Rattle.rules.specs.Answer.{Sent, unless}
+use Rattle.rules.specs.Answer.{Decision, Sent, unless, outcome}
 use Rattle.rules.specs.Datagram.{datagram, messageRows, gPduRows, extended, badExtensions}
 use Rattle.rules.specs.Carried.{Carried, carriedBy, carried4, datagramIn4}
-use Rattle.rules.specs.D4.{d4Packet, gtp4Rows, d4Rows, rowsD4, atD4}
+use Rattle.rules.specs.D4.{d4Packet, gtp4Rows, d4Rows, rowsD4, decideGPdu4, decideD4, atD4}
 use Rattle.rules.specs.Header4.{header4, malformed4, badHeader4}
 use Rattle.rules.specs.E4.{e4Packet, e4TotalLength}
 use Rattle.rules.specs.Calls.{frontRows4, atFoundRule}
@@ -47,20 +48,35 @@ pub record Passed (r p : List ℕ) : Type 0 where
   pub last : None (d4Rows r (carried4 p .inner))
 
 module _ (r p : List ℕ) where
-  sent-passed : (x : List ℕ) → Clear (malformed4 (header4 p)) → Clear (badHeader4 (header4 p)) → atD4 r p ≡ Sent x → Passed r p
-  unfolding atD4 rowsD4
-  sent-passed x front ipv4 h =
+  -- a G-PDU is no Echo Request
+  gPdu-decides : Gtpu.messageType (datagramIn4 p) ≡ gPdu → decideD4 r p ≡ decideGPdu4 r p
+  unfolding datagram
+  gPdu-decides t = rw t
+
+  pub gPdu-at-d4 : Gtpu.messageType (datagramIn4 p) ≡ gPdu → atD4 r p ≡ outcome (decideGPdu4 r p)
+  unfolding atD4
+  gPdu-at-d4 t = ap (λ (d : Decision). outcome d) (gPdu-decides t)
+
+  sent-passed : (x : List ℕ) → Gtpu.messageType (datagramIn4 p) ≡ gPdu → Clear (malformed4 (header4 p)) → Clear (badHeader4 (header4 p))
+      → atD4 r p ≡ Sent x → Passed r p
+  unfolding rowsD4
+  sent-passed x t front ipv4 h =
       let g = datagram (datagramIn4 p) in
-      let (n, k) = unless-sent (rowsD4 r p) (Sent (d4Packet r (carried4 p))) x h in
+      let (n, k) = unless-sent (rowsD4 r p) (Sent (d4Packet r (carried4 p))) x (sym (gPdu-at-d4 t) ∙ h) in
       let last = d4Rows r (carried4 p .inner) in
       let (a, (b, (c, d))) = none-parts (gtp4Rows (header4 p) g) (messageRows g) (gPduRows (Rule.direction r) g) last n in
       record { front = front; ipv4 = ipv4; tunnel = a; message = b; gPdu = c; last = d }
 
+  passed-gPdu : Passed r p → Gtpu.messageType (datagramIn4 p) ≡ gPdu
+  unfolding gPduRows datagram
+  passed-gPdu n = omega (read, n .gPdu)
+
   passed-sent : Passed r p → atD4 r p ≡ Sent (d4Packet r (carried4 p))
-  unfolding atD4 rowsD4
+  unfolding rowsD4
   passed-sent n =
       let g = datagram (datagramIn4 p) in
-      unless-none (rowsD4 r p) (Sent (d4Packet r (carried4 p)))
+      gPdu-at-d4 (passed-gPdu n)
+      ∙ unless-none (rowsD4 r p) (Sent (d4Packet r (carried4 p)))
       (parts-none (gtp4Rows (header4 p) g) (messageRows g) (gPduRows (Rule.direction r) g) (d4Rows r (carried4 p .inner))
       (n .tunnel) (n .message) (n .gPdu) (n .last))
 
@@ -104,15 +120,15 @@ module _ (s : Stop) (p d : List ℕ) (k : ℕ) (a : AtRule s d k) (hd : Ipv4.des
   found-at : matchRule (s .table) (Ipv4.destination p) ≡ At k
   found-at = rw hd (a .matches)
 
-  pub call-passed : (x : List ℕ) → call s p ≡ Sent x → Passed (ruleAt (s .table) k) p
+  pub call-passed : (x : List ℕ) → Gtpu.messageType (datagramIn4 p) ≡ gPdu → call s p ≡ Sent x → Passed (ruleAt (s .table) k) p
   unfolding frontRows4
-  call-passed x hc =
+  call-passed x type hc =
       let t = s .table in
       let room = length (s .buffer) in
       let found = atFoundRule t p (matchRule t (Ipv4.destination p)) in
       let k₁ = sent-settle room (unless (frontRows4 t (header4 p)) found) x (sym (settled4 p t room) ∙ sym (call-v4 s p (a .call)) ∙ hc) in
       let (n, k₂) = unless-sent (frontRows4 t (header4 p)) found x k₁ in
-      sent-passed (ruleAt t k) p x (n .1 .0) (n .1 .1 .0) (sym (ap (λ (f : Found). atFoundRule t p f) found-at ∙ at-found-rule t p k) ∙ k₂)
+      sent-passed (ruleAt t k) p x type (n .1 .0) (n .1 .1 .0) (sym (ap (λ (f : Found). atFoundRule t p f) found-at ∙ at-found-rule t p k) ∙ k₂)
 
   pub passed-call : (r : List ℕ) → ruleAt (s .table) k ≡ r → Passed r p → length (d4Packet r (carried4 p)) ≤ length (s .buffer)
       → call s p ≡ Sent (d4Packet r (carried4 p))

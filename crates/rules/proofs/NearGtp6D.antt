@@ -8,15 +8,16 @@ use lib.Dec.{eqb}
 use lib.ListN.{length}
 use borrow.Author.Tests.{le-leb}
 use Rattle.rules.specs.Octets.{octet, Octets}
-use Rattle.rules.specs.Assigned.{udpProtocol, downlink}
+use Rattle.rules.specs.Assigned.{udpProtocol, downlink, gPdu}
 use Rattle.rules.specs.Entry as Entry
 use Rattle.rules.specs.Ipv6 as Ipv6
+use Rattle.rules.specs.Gtpu as Gtpu
 use Rattle.rules.specs.Gtpu.{datagramOctets}
-use Rattle.rules.specs.Answer.{Sent, outcome}
+use Rattle.rules.specs.Answer.{Decision, Sent, outcome}
 use Rattle.rules.specs.Header.{header, malformed}
 use Rattle.rules.specs.Datagram.{datagram, messageRows, gPduRows}
 use Rattle.rules.specs.Carried.{Carried, carriedBy, carried6, datagramIn6}
-use Rattle.rules.specs.Gtp6D.{gtp6Rows, gtp6DRows, rowsGtp6D, decideGtp6D}
+use Rattle.rules.specs.Gtp6D.{gtp6Rows, gtp6DRows, rowsGtp6D, decideGPdu6, decideGtp6D}
 use Rattle.rules.specs.E6.{e6Packet, e6Payload}
 use Rattle.rules.proofs.Windows.{window-length}
 use Rattle.rules.proofs.Rows.{Clear, None, clear, read, none-parts, parts-none, unless-none, unless-sent}
@@ -33,21 +34,31 @@ pub record Passed (e : List ℕ) (path : List (List ℕ)) (p : List ℕ) : Type 
   pub last : None (gtp6DRows e path (carried6 p .inner))
 
 module _ (e : List ℕ) (path : List (List ℕ)) (made p : List ℕ) where
-  pub sent-passed : (x : List ℕ) → Clear (malformed (header p)) → outcome (decideGtp6D e path made p) ≡ Sent x
-      → Passed e path p × (made ≡ x)
+  -- a G-PDU is no Echo Request
+  pub gPdu-decides : Gtpu.messageType (datagramIn6 p) ≡ gPdu → decideGtp6D e path made p ≡ decideGPdu6 e path made p
+  unfolding datagram
+  gPdu-decides t = rw t
+
+  pub sent-passed : (x : List ℕ) → Gtpu.messageType (datagramIn6 p) ≡ gPdu → Clear (malformed (header p))
+      → outcome (decideGtp6D e path made p) ≡ Sent x → Passed e path p × (made ≡ x)
   unfolding rowsGtp6D
-  sent-passed x front h =
+  sent-passed x t front h =
       let g = datagram (datagramIn6 p) in
-      let (n, k) = unless-sent (rowsGtp6D e path p) (Sent made) x h in
+      let (n, k) = unless-sent (rowsGtp6D e path p) (Sent made) x (sym (ap (λ (d : Decision). outcome d) (gPdu-decides t)) ∙ h) in
       let last = gtp6DRows e path (carried6 p .inner) in
       let (a, (b, (c, d))) = none-parts (gtp6Rows (header p) g) (messageRows g) (gPduRows (Entry.direction e) g) last n in
       (record { front = front; tunnel = a; message = b; gPdu = c; last = d }, cc)
+
+  pub passed-gPdu : Passed e path p → Gtpu.messageType (datagramIn6 p) ≡ gPdu
+  unfolding gPduRows datagram
+  passed-gPdu n = omega (read, n .gPdu)
 
   pub passed-sent : Passed e path p → outcome (decideGtp6D e path made p) ≡ Sent made
   unfolding rowsGtp6D
   passed-sent n =
       let g = datagram (datagramIn6 p) in
-      unless-none (rowsGtp6D e path p) (Sent made)
+      ap (λ (d : Decision). outcome d) (gPdu-decides (passed-gPdu n))
+      ∙ unless-none (rowsGtp6D e path p) (Sent made)
       (parts-none (gtp6Rows (header p) g) (messageRows g) (gPduRows (Entry.direction e) g) (gtp6DRows e path (carried6 p .inner))
       (n .tunnel) (n .message) (n .gPdu) (n .last))
 

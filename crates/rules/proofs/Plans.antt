@@ -1,13 +1,13 @@
 -- Each behaviour is of the form of Plan.antt: what it sends is its head, then the arriving octets from its place on.
 use mathlib.Core.Path.{_≡_, refl, sym, ap, _∙_}
-use mathlib.Core.Bool.{true}
+use mathlib.Core.Bool.{Bool, true, false, cond}
 use mathlib.Core.List.{List, [], _∷_, _++_, append-nil, append-assoc}
 use Prim.Native.Nat.{ℕ, zero, suc, _+_, _-_, _*_, _/_, _%_, _≤_}
 use native.Mathlib.Nat.{add-zero}
 use native.Mathlib.Omega.{arith}
 use lib.Dec.{ltb}
 use lib.ListN.{length, drop, take, getD, length-append, length-drop, take-append-drop}
-use lib.Seq.{drop-drop, getD-drop, take-append-le, drop-append-le}
+use lib.Seq.{drop-drop, drop-length, getD-drop, take-append-le, drop-append-le}
 use borrow.Author.Tests.{not-false, ltb-false, ne-eqb}
 use Rattle.rules.specs.Octets.{octet, window, splice, put16}
 use Rattle.rules.specs.Assigned.{udpProtocol, routingHeader, segmentRouting}
@@ -28,17 +28,19 @@ use Rattle.rules.specs.Header.{header, hasSrh, badSrh}
 use Rattle.rules.specs.Session.{innerProtocol}
 use Rattle.rules.specs.Srv6.{srv6, pastWaypoints}
 use Rattle.rules.specs.Carried.{carriedBy, carried6, carried4, datagramIn6, datagramIn4}
-use Rattle.rules.specs.Answer.{given, verdict, Outcome, Sent, Refused, after, unless}
+use Rattle.rules.specs.Answer.{given, verdict, Outcome, Sent, Refused, after, unless, outcome}
+use Rattle.rules.specs.Datagram.{datagram}
+use Rattle.rules.specs.Echo.{isEcho, echoReply6, echoReply4}
 use Rattle.rules.specs.Waypoint.{Routing, routing, step, withRouting, forwarded, underway, stepRows, waypointRows, atWaypoint}
-use Rattle.rules.specs.Gtp6D.{gtp6DPacket}
+use Rattle.rules.specs.Gtp6D.{gtp6DPacket, rowsGtp6D, rowsEcho6, decideGPdu6, decideEcho6}
 use Rattle.rules.specs.D.{lastWithArgs, dPath, dPacket, atD}
 use Rattle.rules.specs.Di.{diPath, diPacket, atDi}
 use Rattle.rules.specs.E6.{e6Carried, e6Packet, atE6}
 use Rattle.rules.specs.E4.{startBehind, e4Carried, e4Packet, atE4}
-use Rattle.rules.specs.D4.{d4Sid, d4Source, d4Packet, atD4}
-use Rattle.rules.specs.Plan.{sentBy, carryOut, e6Head, e4Head, pathFront, pathHead, tailOf}
+use Rattle.rules.specs.D4.{d4Sid, d4Source, d4Packet, rowsD4, rowsEcho4, decideGPdu4, decideEcho4, atD4}
+use Rattle.rules.specs.Plan.{Plan, sentBy, carryOut, e6Head, e4Head, pathFront, pathHead, tailOf}
 use Rattle.rules.specs.Plan.{headAlong, gtp6DPath, atGtp6D, innerAt, d4Head}
-use Rattle.rules.specs.Plan.{waypointPlan, gtp6DPlan, e6Plan, e4Plan, d4Plan}
+use Rattle.rules.specs.Plan.{waypointPlan, echoPlan6, gPduPlan6, gtp6DPlan, e6Plan, e4Plan, echoPlan4, gPduPlan4, d4Plan}
 use Rattle.rules.specs.declared.Verdict.{Verdict}
 use Rattle.rules.specs.declared.Verdict.the-variants.{Pass, Refuse}
 use Rattle.rules.proofs.Windows.{window-length, window-take}
@@ -60,7 +62,7 @@ ipv6-before class payload next hop s d r =
     let second = class % 16 * 16 in
     ap (λ (l : List ℕ). first ∷ second ∷ 0 ∷ 0 ∷ (payload / 256) ∷ (payload % 256) ∷ next ∷ hop ∷ l) (regroup s d r)
 
-ipv4-before : (tos total ttl : ℕ) (s d r : List ℕ) → ipv4 tos total ttl s d [] ++ r ≡ ipv4 tos total ttl s d r
+pub ipv4-before : (tos total ttl : ℕ) (s d r : List ℕ) → ipv4 tos total ttl s d [] ++ r ≡ ipv4 tos total ttl s d r
 ipv4-before tos total ttl s d r =
     let sum = checksum (ipv4Front tos total ttl (put16 0 (s ++ d))) in
     ap (λ (l : List ℕ). ipv4Front tos total ttl (put16 sum l)) (regroup s d r)
@@ -191,6 +193,10 @@ first-octet session place p inner e =
 inner-size : (place : ℕ) (p inner : List ℕ) → drop place p ≡ inner → length p - place ≡ length inner
 inner-size place p inner e = sym (length-drop place p) ∙ ap length e
 
+-- a reply to an Echo Request: no arriving octet follows its head
+pub all-head : (head p : List ℕ) → sentBy head (length p) p ≡ head
+all-head head p = ap (λ (l : List ℕ). head ++ l) (drop-length p) ∙ append-nil head
+
 -- D AND DI
 
 pub inner-6 : (p : List ℕ) → drop (innerAt p (header p .upperAt)) p ≡ carried6 p .inner
@@ -198,10 +204,10 @@ unfolding carried6 carriedBy
 inner-6 p = sym (drop-drop (20 + 4 * Gtpu.extensionUnits (datagramIn6 p)) (header p .upperAt) p)
 
 module _ (tail : ℕ) (e policy p : List ℕ) (h : 1 ≤ tail) (k : tail ≤ 2) where
-  pub gtp6D-sent : sentBy (gtp6DPlan tail e policy p .head) (gtp6DPlan tail e policy p .place) p ≡ gtp6DPacket e (gtp6DPath tail policy
+  pub gPdu6-sent : sentBy (gPduPlan6 tail e policy p .head) (gPduPlan6 tail e policy p .place) p ≡ gtp6DPacket e (gtp6DPath tail policy
       (carried6 p)) (carried6 p)
-  unfolding gtp6DPlan gtp6DPacket gtp6DPath
-  gtp6D-sent =
+  unfolding gPduPlan6 gtp6DPacket gtp6DPath
+  gPdu6-sent =
       let c = carried6 p in
       let place = innerAt p (header p .upperAt) in
       let sid = lastWithArgs policy (c .args) in
@@ -213,8 +219,29 @@ module _ (tail : ℕ) (e policy p : List ℕ) (h : 1 ≤ tail) (k : tail ≤ 2) 
       (length p - place) (c .inner) h k (inner-size place p (c .inner) (inner-6 p))
 
   pub gtp6D-carried-out : carryOut (gtp6DPlan tail e policy p) p ≡ atGtp6D tail e policy p
-  unfolding atGtp6D gtp6DPlan
-  gtp6D-carried-out = ap (λ (x : List ℕ). unless (gtp6DPlan tail e policy p .rows) (Sent x)) gtp6D-sent
+  unfolding atGtp6D gtp6DPlan echoPlan6 gPduPlan6
+  gtp6D-carried-out = go (isEcho (datagram (datagramIn6 p)))
+    where
+      path : List (List ℕ)
+      path = gtp6DPath tail policy (carried6 p)
+
+      go : (echo : Bool) → carryOut (cond echo (echoPlan6 e p) (gPduPlan6 tail e policy p)) p
+          ≡ outcome (cond echo (decideEcho6 e p) (decideGPdu6 e path (gtp6DPacket e path (carried6 p)) p))
+      go true = ap (λ (x : List ℕ). unless (rowsEcho6 p) (Sent x)) (all-head (echoReply6 e p) p)
+      go false = ap (λ (x : List ℕ). unless (rowsGtp6D e path p) (Sent x)) gPdu6-sent
+
+  -- by the type of the message
+  pub echo6-carried-out : isEcho (datagram (datagramIn6 p)) ≡ true → carryOut (echoPlan6 e p) p ≡ atGtp6D tail e policy p
+  unfolding gtp6DPlan
+  echo6-carried-out t =
+      let is : gtp6DPlan tail e policy p ≡ echoPlan6 e p = rw t in
+      sym (ap (λ (plan : Plan). carryOut plan p) is) ∙ gtp6D-carried-out
+
+  pub gPdu6-carried-out : isEcho (datagram (datagramIn6 p)) ≡ false → carryOut (gPduPlan6 tail e policy p) p ≡ atGtp6D tail e policy p
+  unfolding gtp6DPlan
+  gPdu6-carried-out t =
+      let is : gtp6DPlan tail e policy p ≡ gPduPlan6 tail e policy p = rw t in
+      sym (ap (λ (plan : Plan). carryOut plan p) is) ∙ gtp6D-carried-out
 
 pub d-tail : (e policy p : List ℕ) → atGtp6D 1 e policy p ≡ atD e policy p
 unfolding atGtp6D gtp6DPath tailOf atD dPath dPacket
@@ -253,9 +280,9 @@ d4-whole r class upper source sid size inner hs = go (Rule.waypointCount r) refl
         (along-whole class upper hops source r 48 (suc w) 1 sid sid size inner (omega arith) (omega arith) hs)
 
 module _ (r p : List ℕ) where
-  pub d4-sent : sentBy (d4Plan r p .head) (d4Plan r p .place) p ≡ d4Packet r (carried4 p)
-  unfolding d4Plan d4Packet
-  d4-sent =
+  pub gPdu4-sent : sentBy (gPduPlan4 r p .head) (gPduPlan4 r p .place) p ≡ d4Packet r (carried4 p)
+  unfolding gPduPlan4 d4Packet
+  gPdu4-sent =
       let c = carried4 p in
       let place = innerAt p 20 in
       let u = first-octet (Rule.session r) place p (c .inner) (inner-4 p) in
@@ -264,8 +291,25 @@ module _ (r p : List ℕ) where
       (inner-size place p (c .inner) (inner-4 p))
 
   pub d4-carried-out : carryOut (d4Plan r p) p ≡ atD4 r p
-  unfolding atD4 d4Plan
-  d4-carried-out = ap (λ (x : List ℕ). unless (d4Plan r p .rows) (Sent x)) d4-sent
+  unfolding atD4 d4Plan echoPlan4 gPduPlan4
+  d4-carried-out = go (isEcho (datagram (datagramIn4 p)))
+    where
+      go : (echo : Bool) → carryOut (cond echo (echoPlan4 r p) (gPduPlan4 r p)) p
+          ≡ outcome (cond echo (decideEcho4 r p) (decideGPdu4 r p))
+      go true = ap (λ (x : List ℕ). unless (rowsEcho4 p) (Sent x)) (all-head (echoReply4 r p) p)
+      go false = ap (λ (x : List ℕ). unless (rowsD4 r p) (Sent x)) gPdu4-sent
+
+  pub echo4-carried-out : isEcho (datagram (datagramIn4 p)) ≡ true → carryOut (echoPlan4 r p) p ≡ atD4 r p
+  unfolding d4Plan
+  echo4-carried-out t =
+      let is : d4Plan r p ≡ echoPlan4 r p = rw t in
+      sym (ap (λ (plan : Plan). carryOut plan p) is) ∙ d4-carried-out
+
+  pub gPdu4-carried-out : isEcho (datagram (datagramIn4 p)) ≡ false → carryOut (gPduPlan4 r p) p ≡ atD4 r p
+  unfolding d4Plan
+  gPdu4-carried-out t =
+      let is : d4Plan r p ≡ gPduPlan4 r p = rw t in
+      sym (ap (λ (plan : Plan). carryOut plan p) is) ∙ d4-carried-out
 
 -- THE WAYPOINT
 

@@ -100,6 +100,7 @@ pub d-two : MatchingD nearD (near6 2 ∷ near6 2 ∷ []) (packet6 inner) 0
 unfolding computing
 d-two = record {
   octets = bytes-octets (packet6 inner) refl;
+  gPdu = refl;
   sent = (_, refl);
   enters = record { call = refl; octets = bytes-octets (table endMGtp6D 2) refl; sound = refl; matches = refl; kind = refl };
   passes = ((2, at-waypoint), ((2, at-waypoint), tt));

@@ -14,12 +14,14 @@ use Rattle.rules.specs.Rule as Rule
 use Rattle.rules.specs.Ipv6 as Ipv6
 use Rattle.rules.specs.Ipv4 as Ipv4
 use Rattle.rules.specs.Srh as Srh
+use Rattle.rules.specs.Gtpu as Gtpu
 use Rattle.rules.specs.Args.{argsAt}
 use Rattle.rules.specs.Sound.{sound, entryLimit, entrySound, behaviourKnown}
 use Rattle.rules.specs.Match.{matchEntry, matchRule}
 use Rattle.rules.specs.Answer.{Decision, Sent, unless, outcome, inRoom, roomRow, lengthRow}
 use Rattle.rules.specs.Header.{header, malformed, hasSrh, badChain}
 use Rattle.rules.specs.Carried.{carried6, carried4}
+use Rattle.rules.specs.Gtp6D.{decideGtp6D}
 use Rattle.rules.specs.Waypoint.{forwarded, underway, waypointRows, stepRows, atWaypoint}
 use Rattle.rules.specs.D.{dPath, dPacket, atD}
 use Rattle.rules.specs.Di.{diPath, diPacket, atDi}
@@ -29,8 +31,9 @@ use Rattle.rules.specs.D4.{d4Packet, rowsD4, atD4}
 use Rattle.rules.specs.Header4.{header4}
 use Rattle.rules.specs.Calls.{frontRows6, frontRows4, atFoundEntry, atFoundRule, decide6}
 use Rattle.rules.specs.Calls.{decide4, rows6, rows4, translate6, translate4}
-use Rattle.rules.specs.Written.{WrittenWaypoint, WrittenD, WrittenDi, WrittenE6, WrittenE4, WrittenD4}
-use Rattle.rules.specs.Sent.{SentAtEntry}
+use Rattle.rules.specs.Refused.{behind}
+use Rattle.rules.specs.Written.{WrittenWaypoint, WrittenD, WrittenDi, WrittenE6, WrittenE4, WrittenEcho6}
+use Rattle.rules.specs.Sent.{Taken, SentAtEntry, SentAtRule}
 use Rattle.rules.specs.declared.Found.{Found}
 use Rattle.rules.specs.declared.Found.the-variants.{At, Nothing}
 use Rattle.rules.proofs.Windows.{window-length, octets-window}
@@ -43,7 +46,8 @@ use Rattle.rules.proofs.Entries.{at-waypoint, at-d, at-di, at-e6, at-e4
 use Rattle.rules.proofs.Sids.{Fits}
 use Rattle.rules.proofs.FarE6.{Valid}
 use Rattle.rules.proofs.NearGtp6D.{sent-passed, carried6-valid}
-use Rattle.rules.proofs.NearD4.{carried4-valid, carried4-source}
+use Rattle.rules.proofs.NearD4.{carried4-valid, carried4-source, gPdu-at-d4}
+use Rattle.rules.proofs.Echoes.{taken6, taken4, echo-sent6, echo-sent4, echo6-written, echo4-written}
 use Rattle.rules.proofs.Fields.{e6-written, e4-written, waypoint-written}
 use Rattle.rules.proofs.PathFields.{d-written, di-written}
 use Rattle.rules.proofs.D4Fields.{d4-written}
@@ -84,17 +88,27 @@ waypoint-sent p x h =
     rw q at (waypoint-written p (omega (read, b)))
 
 module _ (e y p x : List ℕ) (o : Octets p) (s : SoundPolicy y) (front : Clear (malformed (header p))) where
-  d-sent : atD e y p ≡ Sent x → WrittenD e y (carried6 p) x
-  unfolding atD
-  d-sent h =
-      let (n, q) = sent-passed e (dPath y (carried6 p)) (dPacket e y (carried6 p)) p x front h in
+  d-sent : Gtpu.messageType (behind p) ≡ 255 → atD e y p ≡ Sent x → WrittenD e y (carried6 p) x
+  unfolding atD header
+  d-sent t h =
+      let (n, q) = sent-passed e (dPath y (carried6 p)) (dPacket e y (carried6 p)) p x t front h in
       rw q at (d-written e y (carried6 p) (carried6-valid p o) (s .least) (s .start))
 
-  di-sent : atDi e y p ≡ Sent x → WrittenDi e y (carried6 p) x
-  unfolding atDi
-  di-sent h =
-      let (n, q) = sent-passed e (diPath y (carried6 p)) (diPacket e y (carried6 p)) p x front h in
+  di-sent : Gtpu.messageType (behind p) ≡ 255 → atDi e y p ≡ Sent x → WrittenDi e y (carried6 p) x
+  unfolding atDi header
+  di-sent t h =
+      let (n, q) = sent-passed e (diPath y (carried6 p)) (diPacket e y (carried6 p)) p x t front h in
       rw q at (di-written e y (carried6 p) (carried6-valid p o) (s .least) (s .start))
+
+-- Echo Requests at D and Di, along whatever path
+module _ (e : List ℕ) (path : List (List ℕ)) (made p x : List ℕ) (h : outcome (decideGtp6D e path made p) ≡ Sent x) where
+  taken-behind : Taken (behind p)
+  unfolding header
+  taken-behind = taken6 e path made p x h
+
+  echo6-sent : Octets p → Gtpu.messageType (behind p) ≡ 1 → WrittenEcho6 e p (behind p) x
+  unfolding header
+  echo6-sent o t = rw (echo-sent6 e path made p x t h) at (echo6-written e p o)
 
 e6-sent : (e p x : List ℕ) → Octets p → atE6 e p ≡ Sent x → WrittenE6 e (e6Carried e p) x
 unfolding atE6
@@ -116,12 +130,16 @@ e4-sent e p x o ttl h =
     (octets-window from (Entry.q e) 4 (octets-window p 8 16 o)) (octets-window to (Entry.p e) 4 (octets-window p 24 16 o)) ttl
     (omega (read, m)))
 
-d4-sent : (r p x : List ℕ) → Octets p → Rule.p r ≤ 7 → Rule.q r ≤ 12 → atD4 r p ≡ Sent x → WrittenD4 r (carried4 p) x
+d4-sent : (r p x : List ℕ) → Octets p → Rule.p r ≤ 7 → Rule.q r ≤ 12 → Rule.hopLimit r < 256 → atD4 r p ≡ Sent x → SentAtRule r p x
 unfolding atD4
-d4-sent r p x o hp hq h =
-    let (n, k) = unless-sent (rowsD4 r p) (Sent (d4Packet r (carried4 p))) x h in
-    let q : d4Packet r (carried4 p) ≡ x = cc in
-    rw q at (d4-written r (carried4 p) (carried4-valid p o) (rw (carried4-source p) (window-length p 12 4)) hp hq)
+d4-sent r p x o hp hq ttl h = record {
+  taken = taken4 r p x h;
+  d4 = λ t.
+      let (n, k) = unless-sent (rowsD4 r p) (Sent (d4Packet r (carried4 p))) x (sym (gPdu-at-d4 r p t) ∙ h) in
+      let q : d4Packet r (carried4 p) ≡ x = cc in
+      rw q at (d4-written r (carried4 p) (carried4-valid p o) (rw (carried4-source p) (window-length p 12 4)) hp hq);
+  echo = λ t. rw (echo-sent4 r p x t h) at (echo4-written r p o ttl);
+}
 
 -- THE CALLS
 
@@ -133,9 +151,13 @@ entry-ttl : (t : List ℕ) (i : ℕ) → Octets t → Entry.hopLimit (entryAt t 
 unfolding entryAt
 entry-ttl t i o = octets-window t (16 + 64 * i) 64 o 2
 
+rule-ttl : (t : List ℕ) (k : ℕ) → Octets t → Rule.hopLimit (ruleAt t k) < 256
+unfolding ruleAt
+rule-ttl t k o = octets-window t _ 160 o 1
+
 pub sent6-written : (p t : List ℕ) (room : ℕ) (x : List ℕ) → Octets p → Octets t → translate6 p t room ≡ Sent x
     → (i : ℕ) × ((matchEntry t (Ipv6.destination p) ≡ At i) × SentAtEntry t (entryAt t i) p x)
-unfolding frontRows6
+unfolding frontRows6 atD atDi
 sent6-written p t room x op ot h =
     let to = Ipv6.destination p in
     let rest = atFoundEntry t p (matchEntry t to) in
@@ -151,25 +173,30 @@ sent6-written p t room x op ot h =
         let k = sym (at-found-entry t p i) ∙ h in
         let to = Ipv6.destination p in
         let e = entryAt t i in
-        let y = policyAt t (Entry.policy e) in (
+        let y = policyAt t (Entry.policy e) in
+        let c = carried6 p in (
           i,
           (
             m,
             record {
               known = entry-known (policies t) e (found-entry entryLimit t to i s m);
               waypoint = λ b. waypoint-sent p x (sym (at-waypoint t e p b) ∙ k);
-              d = λ b. d-sent e y p x op (found-d entryLimit t to i s m b .policy) front (sym (at-d t e p b) ∙ k);
-              di = λ b. di-sent e y p x op (found-di entryLimit t to i s m b .policy) front (sym (at-di t e p b) ∙ k);
+              d = λ b q. d-sent e y p x op (found-d entryLimit t to i s m b .policy) front q (sym (at-d t e p b) ∙ k);
+              di = λ b q. di-sent e y p x op (found-di entryLimit t to i s m b .policy) front q (sym (at-di t e p b) ∙ k);
               e6 = λ b. e6-sent e p x op (sym (at-e6 t e p b) ∙ k);
               e4 = λ b. e4-sent e p x op (entry-ttl t i ot) (sym (at-e4 t e p b) ∙ k);
+              takenD = λ b. taken-behind e (dPath y c) (dPacket e y c) p x (sym (at-d t e p b) ∙ k);
+              takenDi = λ b. taken-behind e (diPath y c) (diPacket e y c) p x (sym (at-di t e p b) ∙ k);
+              echoD = λ b. echo6-sent e (dPath y c) (dPacket e y c) p x (sym (at-d t e p b) ∙ k) op;
+              echoDi = λ b. echo6-sent e (diPath y c) (diPacket e y c) p x (sym (at-di t e p b) ∙ k) op;
             },
           ),
         )
 
-pub sent4-written : (p t : List ℕ) (room : ℕ) (x : List ℕ) → Octets p → translate4 p t room ≡ Sent x
-    → (k : ℕ) × ((matchRule t (Ipv4.destination p) ≡ At k) × WrittenD4 (ruleAt t k) (carried4 p) x)
+pub sent4-written : (p t : List ℕ) (room : ℕ) (x : List ℕ) → Octets p → Octets t → translate4 p t room ≡ Sent x
+    → (k : ℕ) × ((matchRule t (Ipv4.destination p) ≡ At k) × SentAtRule (ruleAt t k) p x)
 unfolding frontRows4
-sent4-written p t room x op h =
+sent4-written p t room x op ot h =
     let to = Ipv4.destination p in
     let rest = atFoundRule t p (matchRule t to) in
     let rows = frontRows4 t (header4 p) in
@@ -177,11 +204,11 @@ sent4-written p t room x op h =
     found (not-false (sound t) (n .0 .0)) (matchRule t to) refl k
   where
     found : sound t ≡ true → (f : Found) → matchRule t (Ipv4.destination p) ≡ f → atFoundRule t p f ≡ Sent x
-        → (k : ℕ) × ((matchRule t (Ipv4.destination p) ≡ At k) × WrittenD4 (ruleAt t k) (carried4 p) x)
+        → (k : ℕ) × ((matchRule t (Ipv4.destination p) ≡ At k) × SentAtRule (ruleAt t k) p x)
     found s Nothing m h = let no = sym (at-no-rule t p) ∙ h in let z : _≡_ {A = ℕ} 0 1 = cc in absurd (omega arith)
     found s (At j) m h =
         let good = found-rule entryLimit t (Ipv4.destination p) j s m in
-        (j, (m, d4-sent (ruleAt t j) p x op (good .p) (good .q) (sym (at-found-rule t p j) ∙ h)))
+        (j, (m, d4-sent (ruleAt t j) p x op (good .p) (good .q) (rule-ttl t j ot) (sym (at-found-rule t p j) ∙ h)))
 
 -- THE ROOM
 

@@ -1,18 +1,19 @@
 -- The first row that applies is given, whatever the list, where its rows stand in their places.
 use mathlib.Core.Path.{_≡_, refl, sym, ap, _∙_}
-use mathlib.Core.Bool.{Bool, true, false, cond, true≢false}
+use mathlib.Core.Bool.{Bool, true, false, not, cond, _||_, true≢false}
 use mathlib.Core.List.{List, [], _∷_}
-use Prim.Native.Nat.{ℕ, zero, suc, _+_, _-_, _≤_, _<_}
+use Prim.Native.Nat.{ℕ, suc, _≤_, _<_}
 use native.Mathlib.Omega.{arith}
 use native.Mathlib.Decide.{ℕ-discrete, decLt}
-use lib.Dec.{eqb, leb}
-use borrow.Author.Tests.{leb-true, eq-eqb, ne-eqb}
-use Rattle.rules.specs.Answer.{Row, any, verdict, position, place, inPlace, applies, Decision, Sent, Refused, after, outcome}
+use lib.Dec.{eqb, leb, ltb}
+use borrow.Author.Tests.{leb-true, ltb-true, le-leb, eq-eqb, ne-eqb}
+use Rattle.rules.specs.Answer.{Row, any, verdict, place, inPlace, applies, Decision, Sent, Refused, after, outcome}
+use Rattle.rules.specs.Sound.{all, whereUsed}
 use Rattle.rules.specs.Given.{First, GoesBy}
 use Rattle.rules.specs.declared.Refusal.{Refusal}
 use Rattle.rules.specs.declared.Verdict.{Verdict}
 use Rattle.rules.specs.declared.Verdict.the-variants.{Pass, Refuse}
-use Rattle.rules.proofs.Conditions.{and-left, and-right}
+use Rattle.rules.proofs.Conditions.{and-left, and-right, all-at, where-used}
 
 -- a row's number, and the first place behind its own
 abbrev own : Row → ℕ
@@ -160,25 +161,20 @@ goes-by d o = record {
 
 -- BY SIZE
 
--- j numbers from k on
-upFrom : (k j : ℕ) → List ℕ
-upFrom k zero = []
-upFrom k (suc j) = k ∷ upFrom (suc k) j
+-- of two numbers the smaller has the earlier place; but only the numbers up to 10 stand before 17
+inOrder : (m n : ℕ) → Bool
+inOrder m n = whereUsed (leb 1 m) (whereUsed (not (eqb n 17) || leb m 10) (ltb (place m) (place n)))
 
-position-up : (n k j : ℕ) → k ≤ n → n < k + j → position n (upFrom k j) ≡ n - k
-unfolding upFrom
-position-up n k zero l h = absurd (omega arith)
-position-up n k (suc j) l h = go (ℕ-discrete n k) (λ d. position-up n (suc k) j (omega arith) (omega arith))
+all-in-order : all (λ n. all (λ m. inOrder m n) n) 18 ≡ true
+unfolding all place inOrder
+all-in-order = refl
+
+pub smaller-before : (m n : ℕ) → 1 ≤ m → m < n → n ≤ 17 → (n ≡ 17 → m ≤ 10) → place m < place n
+unfolding inOrder
+smaller-before m n l h b c =
+    let o = all-at (λ m. inOrder m n) n m (all-at (λ n. all (λ m. inOrder m n) n) 18 n all-in-order (omega arith)) h in
+    ltb-true _ _ (where-used _ _ (where-used _ _ o (le-leb 1 m l)) (named (ℕ-discrete n 17)))
   where
-    go : Dec (n ≡ k) → ((n ≡ k → ⊥) → position n (upFrom (suc k) j) ≡ n - suc k)
-        → cond (eqb n k) 0 (suc (position n (upFrom (suc k) j))) ≡ n - k
-    go (yes e) ih = rw (eq-eqb n k e) (omega arith)
-    go (no d) ih = let q = ih d in rw (ne-eqb n k d) (omega arith)
-
--- the places are in the order of size
-place-size : (n : ℕ) → 1 ≤ n → n ≤ 16 → place n ≡ n - 1
-unfolding place upFrom
-place-size n l m = position-up n 1 16 l (omega arith)
-
-pub smaller-before : (m n : ℕ) → 1 ≤ m → m < n → n ≤ 16 → place m < place n
-smaller-before m n l h b = let p = place-size m l (omega arith) in let q = place-size n (omega arith) b in omega arith
+    named : Dec (n ≡ 17) → not (eqb n 17) || leb m 10 ≡ true
+    named (yes e) = rw (eq-eqb n 17 e, le-leb m 10 (c e))
+    named (no d) = rw (ne-eqb n 17 d)

@@ -1,4 +1,4 @@
--- Sample packets on both sides of each threshold of rows 2 to 14, and some to which two rows apply, and what the calls answer them: one
+-- Sample packets on both sides of each threshold of rows 2 to 14 and 17, and some to which two rows apply, and what the calls answer them: one
 -- list, checked by computation.
 use mathlib.Core.Bool.{Bool, true, _&&_}
 use mathlib.Core.List.{List, [], _∷_, _++_}
@@ -41,6 +41,12 @@ message port udpLength flags kind size rest =
 abbrev pub gpdu : (flags kind units content following : ℕ) → List ℕ
 gpdu flags kind units content following =
     message 2152 28 flags 255 12 (0 ∷ 0 ∷ 0 ∷ kind ∷ units ∷ content ∷ 0x49 ∷ following ∷ 0x45 ∷ 0 ∷ 0 ∷ 0 ∷ [])
+
+-- an Echo Request with flags, the octets of its TEID and what follows it
+abbrev pub echo : (flags a b c d : ℕ) (rest : List ℕ) → List ℕ
+echo flags a b c d rest =
+    let size = length rest in
+    put16 2152 (put16 2152 (put16 (16 + size) (put16 0 (flags ∷ 1 ∷ put16 size (a ∷ b ∷ c ∷ d ∷ rest)))))
 
 -- AT EACH KIND OF ENTRY, AND AT D4
 
@@ -195,8 +201,19 @@ samples =
     ∷ is (atD (message 2152 16 0x30 1 1 [])) 10
     ∷ is (atD (message 2152 17 0x30 255 0 (0 ∷ []))) 10
     -- row 11
-    ∷ is (atD (message 2152 16 0x30 1 0 [])) 11
+    ∷ is (atD (message 2152 16 0x30 2 0 [])) 11
     ∷ is (atD (message 2152 16 0x30 254 0 [])) 11
+    -- row 17: S, each octet of the TEID; E, PN, extensions and elements are not examined, and there are no rows 11 to 15
+    ∷ is (atD (echo 0x32 0 0 0 0 (zeros 4))) 0
+    ∷ is (atD (echo 0x32 0 0 0 0 (zeros 3))) 10
+    ∷ is (atD (echo 0x30 0 0 0 0 [])) 17
+    ∷ is (atD (echo 0x35 0 0 0 0 (zeros 4))) 17
+    ∷ is (atD (echo 0x3f 0 0 0 0 (0 ∷ 7 ∷ 1 ∷ 0x40 ∷ 0 ∷ 14 ∷ []))) 0
+    ∷ is (atD (echo 0x32 1 0 0 0 (zeros 4))) 17
+    ∷ is (atD (echo 0x32 0 1 0 0 (zeros 4))) 17
+    ∷ is (atD (echo 0x32 0 0 1 0 (zeros 4))) 17
+    ∷ is (atD (echo 0x32 0 0 0 1 (zeros 4))) 17
+    ∷ is (answer (routed 64 gateway6 17 4 0 1 (echo 0x32 0 0 0 0 (zeros 4)))) 0
     -- row 12: type, units, end, what follows; the next type counts only if E is set
     ∷ is (atD (gpdu 0x34 0x85 1 0 0)) 0
     ∷ is (atD (gpdu 0x34 0x84 1 0 0)) 12
@@ -218,6 +235,10 @@ samples =
     ∷ is (either (0x50 ∷ [])) 14
     ∷ is (either (0x6f ∷ [])) 0
     ∷ is (either (0x70 ∷ [])) 14
+    -- a reply has 62 octets; 17 is before 16
+    ∷ is (numberOf (translate6 (plain6 17 gateway6 (echo 0x32 0 0 0 0 (zeros 4))) tableD 62)) 0
+    ∷ is (numberOf (translate6 (plain6 17 gateway6 (echo 0x32 0 0 0 0 (zeros 4))) tableD 61)) 16
+    ∷ is (numberOf (translate6 (plain6 17 gateway6 (echo 0x30 0 0 0 0 [])) tableD 0)) 17
     -- of two rows the one before: 5 and 16; 7 and 15 at E6, with an SRH that holds no segment; 14 and 15 at D
     ∷ is (numberOf (translate6 (plain6 0 (sidOf 2) []) tableD 0)) 5
     ∷ is (numberOf (translate6 (plain6 43 (sidOf 1) (41 ∷ 0 ∷ 4 ∷ 1 ∷ 0 ∷ 0 ∷ 0 ∷ 0 ∷ replicate 65512 0)) tableD 66000)) 7

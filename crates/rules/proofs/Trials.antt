@@ -26,7 +26,7 @@ in4 = packet4 (replicate 20 7)
 
 -- flow 9 in uplink, with the bit that is the reflective one in downlink
 abbrev pub uplinkMessage : List ℕ
-uplinkMessage = udp 2152 24 0 (0x34 ∷ 0xff ∷ 0 ∷ 8 ∷ 1 ∷ 2 ∷ 3 ∷ 4 ∷ 0 ∷ 0 ∷ 0 ∷ 0x85 ∷ 1 ∷ 0x10 ∷ 0x49 ∷ 0 ∷ [])
+uplinkMessage = udp 2152 2152 24 0 (0x34 ∷ 0xff ∷ 0 ∷ 8 ∷ 1 ∷ 2 ∷ 3 ∷ 4 ∷ 0 ∷ 0 ∷ 0 ∷ 0x85 ∷ 1 ∷ 0x10 ∷ 0x49 ∷ 0 ∷ [])
 
 -- a waypoint for 2001:db8::/32, and E6 for 2001:db8:b:1::/64 within it
 abbrev pub nested : List ℕ

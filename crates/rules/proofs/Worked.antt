@@ -7,6 +7,7 @@ use lib.ListN.{length, take, replicate}
 use Rattle.rules.specs.Assigned.{endMGtp6D, endMGtp6DDi, ipv6Protocol, routingHeader, downlink, uplink}
 use Rattle.rules.specs.Ipv6 as Ipv6
 use Rattle.rules.specs.Ipv6.{ipv6}
+use Rattle.rules.specs.Ipv4.{ipv4}
 use Rattle.rules.specs.Srh.{srh}
 use Rattle.rules.specs.Gtpu.{udp}
 use Rattle.rules.specs.Args.{argsOctets, argsAt, withArgs}
@@ -14,7 +15,7 @@ use Rattle.rules.specs.Answer.{Outcome, Sent, Refused, verdict}
 use Rattle.rules.specs.Datagram.{datagram, messageRows, gPduRows}
 use Rattle.rules.specs.Carried.{carriedBy}
 use Rattle.rules.specs.D4.{d4Sid, d4Source}
-use Rattle.rules.specs.Calls.{translate6}
+use Rattle.rules.specs.Calls.{translate6, translate4}
 use Rattle.rules.specs.Trip.{Stop, v6, trip}
 use Rattle.rules.specs.declared.Verdict.{Verdict}
 use Rattle.rules.specs.declared.Verdict.the-variants.{Pass, Refuse}
@@ -92,8 +93,36 @@ stopOf behaviour waypoints = record { version = v6; table = table behaviour wayp
 -- the GTP-U message of the papers in a UDP datagram
 abbrev pub message : List ℕ
 message =
-    udp 2152 26 0 (0x34 ∷ 0xff ∷ 0x00 ∷ 0x0a ∷ 0x01 ∷ 0x02 ∷ 0x03 ∷ 0x04 ∷ 0x00 ∷ 0x00 ∷ 0x00 ∷ 0x85 ∷ 0x01 ∷ 0x00 ∷ 0x49 ∷ 0x00 ∷ 0x60 ∷
+    udp 2152 2152 26 0 (0x34 ∷ 0xff ∷ 0x00 ∷ 0x0a ∷ 0x01 ∷ 0x02 ∷ 0x03 ∷ 0x04 ∷ 0x00 ∷ 0x00 ∷ 0x00 ∷ 0x85 ∷ 0x01 ∷ 0x00 ∷ 0x49 ∷ 0x00 ∷ 0x60 ∷
     0x00 ∷ [])
+
+-- an Echo Request from port 0x1234 with the sequence number 0xabcd, and the reply to it
+abbrev pub echoRequest : List ℕ
+echoRequest = udp 0x1234 2152 20 0 (0x32 ∷ 0x01 ∷ 0x00 ∷ 0x04 ∷ 0x00 ∷ 0x00 ∷ 0x00 ∷ 0x00 ∷ 0xab ∷ 0xcd ∷ 0x00 ∷ 0x00 ∷ [])
+
+abbrev pub echoReply : List ℕ
+echoReply =
+    0x08 ∷ 0x68 ∷ 0x12 ∷ 0x34 ∷ 0x00 ∷ 0x16 ∷ 0x00 ∷ 0x00
+    ∷ 0x32 ∷ 0x02 ∷ 0x00 ∷ 0x06 ∷ 0x00 ∷ 0x00 ∷ 0x00 ∷ 0x00 ∷ 0xab ∷ 0xcd ∷ 0x00 ∷ 0x00 ∷ 0x0e ∷ 0x00 ∷ []
+
+-- over IPv6 from 2001:db8:b:63:: to 2001:db8:a::1, behind an SRH with SL 0; over IPv4 from 198.51.100.7 to 192.0.2.1; class 0x2e
+abbrev pub echo6 : List ℕ
+echo6 = ipv6 0x2e 44 routingHeader 55 (sidOf 0x63) gateway6 (srh 17 0 (gateway6 ∷ []) echoRequest)
+
+abbrev pub reply6 : List ℕ
+reply6 =
+    0x62 ∷ 0xe0 ∷ 0x00 ∷ 0x00 ∷ 0x00 ∷ 0x16 ∷ 0x11 ∷ 0x40
+    ∷ 0x20 ∷ 0x01 ∷ 0x0d ∷ 0xb8 ∷ 0x00 ∷ 0x0a ∷ 0x00 ∷ 0x00 ∷ 0x00 ∷ 0x00 ∷ 0x00 ∷ 0x00 ∷ 0x00 ∷ 0x00 ∷ 0x00 ∷ 0x01
+    ∷ 0x20 ∷ 0x01 ∷ 0x0d ∷ 0xb8 ∷ 0x00 ∷ 0x0b ∷ 0x00 ∷ 0x63 ∷ 0x00 ∷ 0x00 ∷ 0x00 ∷ 0x00 ∷ 0x00 ∷ 0x00 ∷ 0x00 ∷ 0x00
+    ∷ echoReply
+
+abbrev pub echo4 : List ℕ
+echo4 = ipv4 0x2e 40 55 (198 ∷ 51 ∷ 100 ∷ 7 ∷ []) (192 ∷ 0 ∷ 2 ∷ 1 ∷ []) echoRequest
+
+abbrev pub reply4 : List ℕ
+reply4 =
+    0x45 ∷ 0x2e ∷ 0x00 ∷ 0x2a ∷ 0x00 ∷ 0x00 ∷ 0x40 ∷ 0x00 ∷ 0x40 ∷ 0x11 ∷ 0x4e ∷ 0x59
+    ∷ 0xc0 ∷ 0x00 ∷ 0x02 ∷ 0x01 ∷ 0xc6 ∷ 0x33 ∷ 0x64 ∷ 0x07 ∷ echoReply
 
 abbrev pub args9 : List ℕ
 args9 = 0x26 ∷ 0x01 ∷ 0x02 ∷ 0x03 ∷ 0x04 ∷ []
@@ -137,6 +166,11 @@ examples =
     ∷ is (call (toE6 1) (table endMGtp6D 0) 1500) (sent 164)
     ∷ is (call (toWaypoint 1) (table endMGtp6D 0) 1500) (6 ∷ 3 ∷ 0 ∷ 0 ∷ 0 ∷ [])
     ∷ is (Ipv6.hopLimit (octetsOf (translate6 (toWaypoint 2) (table endMGtp6D 0) 1500)) ∷ []) (1 ∷ [])
+    -- Echo
+    ∷ is (octetsOf (translate6 echo6 (table endMGtp6D 0) 62)) reply6
+    ∷ is (octetsOf (translate6 echo6 (table endMGtp6DDi 2) 62)) reply6
+    ∷ is (octetsOf (translate4 echo4 (table endMGtp6D 2) 42)) reply4
+    ∷ is (answer (translate4 echo4 (table endMGtp6D 0) 41)) (16 ∷ 0 ∷ 0 ∷ 0 ∷ 0 ∷ [])
     -- the longest inner packet past eight SIDs
     ∷ is (call (packet6 (replicate 65399 0)) (table endMGtp6D 7) 66000) (sent 65575)
     ∷ is (call (packet6 (replicate 65400 0)) (table endMGtp6D 7) 66000) (15 ∷ 0 ∷ 0 ∷ 0 ∷ 0 ∷ [])

@@ -66,15 +66,24 @@ downlink = 0
 abbrev pub uplink : ℕ
 uplink = 1
 
--- UDP port, message type of a G-PDU and type of the PDU Session container (TS 29.281)
+-- UDP port, message types, type of the PDU Session container and of the Recovery element (TS 29.281)
 abbrev pub gtpuPort : ℕ
 gtpuPort = 2152
+
+abbrev pub echoRequest : ℕ
+echoRequest = 1
+
+abbrev pub echoResponse : ℕ
+echoResponse = 2
 
 abbrev pub gPdu : ℕ
 gPdu = 255
 
 abbrev pub pduSessionContainer : ℕ
 pduSessionContainer = 0x85
+
+abbrev pub recovery : ℕ
+recovery = 14
 
 -- ICMPv6 types (RFC 4443)
 abbrev pub timeExceeded : ℕ

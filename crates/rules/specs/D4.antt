@@ -10,6 +10,7 @@ use Rattle.rules.specs.Answer.{Row, row, Decision, Outcome, outcome}
 use Rattle.rules.specs.Header4.{header4}
 use Rattle.rules.specs.Datagram.{datagram, notGtpu, messageRows, gPduRows, innerRows}
 use Rattle.rules.specs.Carried.{Carried, carried4, datagramIn4}
+use Rattle.rules.specs.Echo.{byType, echoRows, echoReply4}
 use Rattle.rules.specs.Session.{innerProtocol}
 use Rattle.rules.specs.Srv6.{pastWaypoints, pastWaypointsPayload}
 use Rattle.rules.specs.declared.Header4.{Header4}
@@ -41,14 +42,24 @@ abbrev pub d4Rows : (r inner : List ℕ) → List Row
 d4Rows r inner =
     innerRows (Rule.session r) (length inner) (octet inner 0) (pastWaypointsPayload (Rule.waypoints r) inner)
 
--- all rows of D4, 8 to 15
+-- all rows of D4 for a G-PDU, 8 to 15
 unfoldable pub rowsD4 : (r packet : List ℕ) → List Row
 rowsD4 r packet =
     let g = datagram (datagramIn4 packet) in
     gtp4Rows (header4 packet) g ++ (messageRows g ++ (gPduRows (Rule.direction r) g ++ d4Rows r (carried4 packet .inner)))
 
+abbrev pub decideGPdu4 : (r packet : List ℕ) → Decision
+decideGPdu4 r packet = record { rows = rowsD4 r packet; packet = d4Packet r (carried4 packet) }
+
+-- all rows of D4 for an Echo Request, 8 to 10 and 17
+unfoldable pub rowsEcho4 : (packet : List ℕ) → List Row
+rowsEcho4 packet = let g = datagram (datagramIn4 packet) in gtp4Rows (header4 packet) g ++ (messageRows g ++ echoRows g)
+
+abbrev pub decideEcho4 : (r packet : List ℕ) → Decision
+decideEcho4 r packet = record { rows = rowsEcho4 packet; packet = echoReply4 r packet }
+
 abbrev pub decideD4 : (r packet : List ℕ) → Decision
-decideD4 r packet = record { rows = rowsD4 r packet; packet = d4Packet r (carried4 packet) }
+decideD4 r packet = byType (datagram (datagramIn4 packet)) (decideEcho4 r packet) (decideGPdu4 r packet)
 
 unfoldable pub atD4 : (r packet : List ℕ) → Outcome
 atD4 r packet = outcome (decideD4 r packet)

@@ -178,6 +178,7 @@ Promise {near} {ss} {far} {p} (over4 k j m) = Delivers4 near ss far p k j
 -- a packet past the D entry i of the near gateway, on its way past waypoints to the policy's last SID
 pub record MatchingD (near : Stop) (ss : List Stop) (p : List ℕ) (i : ℕ) : Type 0 where
   pub octets : Octets p
+  pub gPdu : Gtpu.messageType (datagramIn6 p) ≡ gPdu
   pub sent : (o : List ℕ) × (call near p ≡ Sent o)
   pub enters : AtEntry near (Ipv6.destination p) endMGtp6D i
   pub passes : AtWaypoints ss (Policy.waypoints (policyOf near i))

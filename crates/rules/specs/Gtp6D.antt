@@ -1,4 +1,4 @@
--- What D and Di share: a G-PDU in IPv6 becomes an SRv6 packet along a path.
+-- What D and Di share: a G-PDU in IPv6 becomes an SRv6 packet along a path, an Echo Request is answered.
 use mathlib.Core.List.{List, [], _∷_, _++_}
 use lib.ListN.{length}
 use Prim.Native.Nat.{ℕ}
@@ -8,6 +8,7 @@ use Rattle.rules.specs.Answer.{Row, row, segmentsLeftRow, upperLayerRow,
 use Rattle.rules.specs.Header.{header, badChain, segmentsRemain}
 use Rattle.rules.specs.Datagram.{datagram, notGtpu, messageRows, gPduRows, innerRows}
 use Rattle.rules.specs.Carried.{Carried, carried6, datagramIn6}
+use Rattle.rules.specs.Echo.{byType, echoRows, echoReply6}
 use Rattle.rules.specs.Session.{innerProtocol}
 use Rattle.rules.specs.Srv6.{srv6, srv6Payload}
 use Rattle.rules.specs.declared.Header.{Header}
@@ -27,12 +28,22 @@ gtp6Rows h g =
 abbrev pub gtp6DRows : (e : List ℕ) (path : List (List ℕ)) (inner : List ℕ) → List Row
 gtp6DRows e path inner = innerRows (Entry.session e) (length inner) (octet inner 0) (srv6Payload path inner)
 
--- all rows of D and Di, 5 to 15
+-- all rows of D and Di for a G-PDU, 5 to 15
 unfoldable pub rowsGtp6D : (e : List ℕ) (path : List (List ℕ)) (p : List ℕ) → List Row
 rowsGtp6D e path p =
     let g = datagram (datagramIn6 p) in
     gtp6Rows (header p) g ++ (messageRows g ++ (gPduRows (Entry.direction e) g ++ gtp6DRows e path (carried6 p .inner)))
 
 -- a packet p at the entry e, from which a packet along a path is made
+abbrev pub decideGPdu6 : (e : List ℕ) (path : List (List ℕ)) (made p : List ℕ) → Decision
+decideGPdu6 e path made p = record { rows = rowsGtp6D e path p; packet = made }
+
+-- all rows of D and Di for an Echo Request, 5 to 10 and 17
+unfoldable pub rowsEcho6 : (p : List ℕ) → List Row
+rowsEcho6 p = let g = datagram (datagramIn6 p) in gtp6Rows (header p) g ++ (messageRows g ++ echoRows g)
+
+abbrev pub decideEcho6 : (e p : List ℕ) → Decision
+decideEcho6 e p = record { rows = rowsEcho6 p; packet = echoReply6 e p }
+
 abbrev pub decideGtp6D : (e : List ℕ) (path : List (List ℕ)) (made p : List ℕ) → Decision
-decideGtp6D e path made p = record { rows = rowsGtp6D e path p; packet = made }
+decideGtp6D e path made p = byType (datagram (datagramIn6 p)) (decideEcho6 e p) (decideGPdu6 e path made p)

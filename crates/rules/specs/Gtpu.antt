@@ -1,11 +1,11 @@
 -- UDP (RFC 768), GTP-U (TS 29.281) and the PDU Session container (TS 38.415): their fields, and the headers as we write them.
 use mathlib.Core.Bool.{cond}
-use mathlib.Core.List.{List, _∷_, _++_}
+use mathlib.Core.List.{List, [], _∷_, _++_}
 use Prim.Native.Nat.{ℕ, _+_, _*_, _/_, _%_}
 use lib.Dec.{eqb}
 use lib.ListN.{length, drop}
 use Rattle.rules.specs.Octets.{octet, window, read16, put16}
-use Rattle.rules.specs.Assigned.{gtpuPort, gPdu, pduSessionContainer, downlink}
+use Rattle.rules.specs.Assigned.{gtpuPort, gPdu, pduSessionContainer, downlink, echoResponse, recovery}
 use Rattle.rules.specs.Args.{Args}
 
 -- FIELDS OF A UDP DATAGRAM u
@@ -103,8 +103,8 @@ innerOf u = drop (extensionAt + 4 * extensionUnits u) u
 -- WHAT IS WRITTEN
 
 -- the checksum is an argument; what we write has 0 (house)
-abbrev pub udp : (sourcePort size checksum : ℕ) (rest : List ℕ) → List ℕ
-udp sourcePort size checksum rest = put16 sourcePort (put16 gtpuPort (put16 size (put16 checksum rest)))
+abbrev pub udp : (sourcePort destinationPort size checksum : ℕ) (rest : List ℕ) → List ℕ
+udp sourcePort destinationPort size checksum rest = put16 sourcePort (put16 destinationPort (put16 size (put16 checksum rest)))
 
 -- version 1, PT 1, E only
 abbrev pub gtpuFlags : ℕ
@@ -123,7 +123,20 @@ gtpu direction args size rest =
 
 -- with its UDP header: 24 octets before the inner packet
 abbrev pub datagramBefore : (sourcePort direction : ℕ) (args : Args) (size : ℕ) (rest : List ℕ) → List ℕ
-datagramBefore sourcePort direction args size rest = udp sourcePort (24 + size) 0 (gtpu direction args size rest)
+datagramBefore sourcePort direction args size rest = udp sourcePort gtpuPort (24 + size) 0 (gtpu direction args size rest)
 
 abbrev pub datagramOctets : (sourcePort direction : ℕ) (args : Args) (inner : List ℕ) → List ℕ
 datagramOctets sourcePort direction args inner = datagramBefore sourcePort direction args (length inner) inner
+
+-- version 1, PT 1, S only
+abbrev pub echoFlags : ℕ
+echoFlags = 0x20 + 0x10 + 0x02
+
+-- an Echo Response (TS 29.281, 7.2.2): TEID 0, a sequence number, N-PDU number and next type 0, one Recovery element with counter 0
+abbrev pub echoMessage : (sequenceNumber : ℕ) → List ℕ
+echoMessage sequenceNumber =
+    echoFlags ∷ echoResponse ∷ put16 6 (0 ∷ 0 ∷ 0 ∷ 0 ∷ put16 sequenceNumber (0 ∷ 0 ∷ recovery ∷ 0 ∷ []))
+
+-- with its UDP header: 22 octets
+abbrev pub echoDatagram : (destinationPort sequenceNumber : ℕ) → List ℕ
+echoDatagram destinationPort sequenceNumber = udp gtpuPort destinationPort 22 0 (echoMessage sequenceNumber)

@@ -24,6 +24,7 @@ pub mod Header4
 pub mod Datagram
 pub mod Session
 pub mod Carried
+pub mod Echo
 pub mod Srv6
 pub mod Waypoint
 pub mod Gtp6D

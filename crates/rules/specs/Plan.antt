@@ -21,14 +21,16 @@ use Rattle.rules.specs.Gtpu as Gtpu
 use Rattle.rules.specs.Gtpu.{datagramBefore}
 use Rattle.rules.specs.Header.{header}
 use Rattle.rules.specs.Session.{innerProtocol}
-use Rattle.rules.specs.Carried.{Carried, carried6, carried4}
+use Rattle.rules.specs.Datagram.{datagram}
+use Rattle.rules.specs.Carried.{Carried, carried6, carried4, datagramIn6, datagramIn4}
+use Rattle.rules.specs.Echo.{isEcho, echoReply6, echoReply4}
 use Rattle.rules.specs.Answer.{Row, Outcome, Sent, outcome, unless}
 use Rattle.rules.specs.Waypoint.{routing, step, withRouting, waypointRows}
-use Rattle.rules.specs.Gtp6D.{gtp6DPacket, rowsGtp6D, decideGtp6D}
+use Rattle.rules.specs.Gtp6D.{gtp6DPacket, rowsGtp6D, rowsEcho6, decideGtp6D}
 use Rattle.rules.specs.D.{lastWithArgs}
 use Rattle.rules.specs.E6.{rowsE6}
 use Rattle.rules.specs.E4.{startBehind, rowsE4}
-use Rattle.rules.specs.D4.{d4Sid, d4Source, rowsD4}
+use Rattle.rules.specs.D4.{d4Sid, d4Source, rowsD4, rowsEcho4}
 
 -- everything sent
 abbrev pub sentBy : (head : List ℕ) (place : ℕ) (packet : List ℕ) → List ℕ
@@ -112,8 +114,8 @@ atGtp6D tail e policy packet =
 abbrev pub innerAt : (packet : List ℕ) (at : ℕ) → ℕ
 innerAt packet at = at + (20 + 4 * Gtpu.extensionUnits (drop at packet))
 
-unfoldable pub gtp6DPlan : (tail : ℕ) (e policy packet : List ℕ) → Plan
-gtp6DPlan tail e policy packet =
+unfoldable pub gPduPlan6 : (tail : ℕ) (e policy packet : List ℕ) → Plan
+gPduPlan6 tail e policy packet =
     let c = carried6 packet in
     let place = innerAt packet (header packet .upperAt) in
     record {
@@ -129,8 +131,8 @@ d4Head r class upper source sid size =
     cond (eqb (Rule.waypointCount r) 0) (ipv6 class size upper (Rule.hopLimit r) source sid [])
     (headAlong class upper (Rule.hopLimit r) source r 48 (Rule.waypointCount r) 1 sid sid size)
 
-unfoldable pub d4Plan : (r packet : List ℕ) → Plan
-d4Plan r packet =
+unfoldable pub gPduPlan4 : (r packet : List ℕ) → Plan
+gPduPlan4 r packet =
     let c = carried4 packet in
     let place = innerAt packet Ipv4.size in
     record {
@@ -139,6 +141,20 @@ d4Plan r packet =
           (length packet - place);
       place = place;
     }
+
+-- a reply to an Echo Request is all head: no arriving octet follows
+unfoldable pub echoPlan6 : (e packet : List ℕ) → Plan
+echoPlan6 e packet = record { rows = rowsEcho6 packet; head = echoReply6 e packet; place = length packet }
+
+unfoldable pub echoPlan4 : (r packet : List ℕ) → Plan
+echoPlan4 r packet = record { rows = rowsEcho4 packet; head = echoReply4 r packet; place = length packet }
+
+-- by the type of the message
+unfoldable pub gtp6DPlan : (tail : ℕ) (e policy packet : List ℕ) → Plan
+gtp6DPlan tail e policy packet = cond (isEcho (datagram (datagramIn6 packet))) (echoPlan6 e packet) (gPduPlan6 tail e policy packet)
+
+unfoldable pub d4Plan : (r packet : List ℕ) → Plan
+d4Plan r packet = cond (isEcho (datagram (datagramIn4 packet))) (echoPlan4 r packet) (gPduPlan4 r packet)
 
 -- THE WAYPOINT
 

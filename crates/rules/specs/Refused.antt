@@ -160,6 +160,12 @@ pub data BadContainer (direction : ℕ) (u : List ℕ) : Type 0 where
   noType : Gtpu.extensionType u ≡ 0 → BadContainer direction u
   direction : Gtpu.pduType u ≢ direction → BadContainer direction u
 
+-- 17: of an Echo Request: without S, or with a TEID other than 0
+
+pub data BadEcho (u : List ℕ) : Type 0 where
+  noSequenceNumber : Gtpu.sequenceFlag u ≡ 0 → BadEcho u
+  teid : number u 12 4 ≢ 0 → BadEcho u
+
 -- 14: IPv4v6: inner empty or nibble not 4 or 6
 
 pub data BadInner (session : ℕ) (inner : List ℕ) : Type 0 where
@@ -179,25 +185,35 @@ pub record GivenWaypoint (p : List ℕ) (room : ℕ) (applies : ℕ → Bool) : 
   pub row7 : Exactly (applies 7) (BadLeftWaypoint p)
   pub row8 : Exactly (applies 8) (NotUnderway p)
   pub row16 : 48 ≤ length p → Exactly (applies 16) (room < length p)
-  pub never : Never applies (3 ∷ 9 ∷ 10 ∷ 11 ∷ 12 ∷ 13 ∷ 14 ∷ 15 ∷ [])
+  pub never : Never applies (3 ∷ 9 ∷ 10 ∷ 11 ∷ 12 ∷ 13 ∷ 14 ∷ 15 ∷ 17 ∷ [])
 
--- 9 to 14 belong to D, Di, D4: a datagram, and the direction and session of the entry or rule
+-- a message is an Echo Request (TS 29.281: type 1), or it is none and something holds
+abbrev pub Echo : (u : List ℕ) → Type 0
+Echo u = Gtpu.messageType u ≡ 1
+
+abbrev pub NoEcho : (u : List ℕ) → Type 0 → Type 0
+NoEcho u statement = (Gtpu.messageType u ≢ 1) × statement
+
+-- 9 to 14 and 17 belong to D, Di, D4: a datagram, and the direction and session of the entry or rule. An Echo Request has 17 in the place
+-- of 11, and 12 to 15 are not for it.
 pub record GivenDatagram (direction session : ℕ) (u : List ℕ) (applies : ℕ → Bool) : Type 0 where
   pub row9 : Exactly (applies 9) (BadUdp u)
   pub row10 : Exactly (applies 10) (BadGtpu u)
-  pub row11 : Exactly (applies 11) (Gtpu.messageType u ≢ 255)
-  pub row12 : Exactly (applies 12) (BadExtension u)
-  pub row13 : Exactly (applies 13) (BadContainer direction u)
-  pub row14 : Exactly (applies 14) (BadInner session (Gtpu.innerOf u))
+  pub row17 : Exactly (applies 17) (Echo u × BadEcho u)
+  pub row11 : Exactly (applies 11) (NoEcho u (Gtpu.messageType u ≢ 255))
+  pub row12 : Exactly (applies 12) (NoEcho u (BadExtension u))
+  pub row13 : Exactly (applies 13) (NoEcho u (BadContainer direction u))
+  pub row14 : Exactly (applies 14) (NoEcho u (BadInner session (Gtpu.innerOf u)))
 
--- D and Di, where the SRH that is written holds some segments
+-- D and Di, where the SRH that is written holds some segments; a reply to an Echo Request has 62 octets
 pub record GivenGtp6D (e p : List ℕ) (segments room : ℕ) (applies : ℕ → Bool) : Type 0 where
   pub row5 : Exactly (applies 5) (BadChain p)
   pub row7 : Exactly (applies 7) (SegmentsRemain p)
   pub row8 : Exactly (applies 8) (NotGtpu (upper p) (behind p))
   pub datagram : GivenDatagram (Entry.direction e) (Entry.session e) (behind p) applies
-  pub row15 : Exactly (applies 15) (65535 < 8 + 16 * segments + length (Gtpu.innerOf (behind p)))
-  pub row16 : Exactly (applies 16) (room < 48 + 16 * segments + length (Gtpu.innerOf (behind p)))
+  pub row15 : Exactly (applies 15) (NoEcho (behind p) (65535 < 8 + 16 * segments + length (Gtpu.innerOf (behind p))))
+  pub row16 : (Echo (behind p) → ⊥) → Exactly (applies 16) (room < 48 + 16 * segments + length (Gtpu.innerOf (behind p)))
+  pub row16Echo : Echo (behind p) → Exactly (applies 16) (room < 62)
   pub never : Never applies (3 ∷ 6 ∷ [])
 
 pub record GivenE6 (e p : List ℕ) (room : ℕ) (applies : ℕ → Bool) : Type 0 where
@@ -206,7 +222,7 @@ pub record GivenE6 (e p : List ℕ) (room : ℕ) (applies : ℕ → Bool) : Type
   pub row8 : Exactly (applies 8) (OfSession (Entry.session e) (upper p) → ⊥)
   pub row15 : Exactly (applies 15) (65535 < 24 + length (behind p))
   pub row16 : Exactly (applies 16) (room < 64 + length (behind p))
-  pub never : Never applies (3 ∷ 6 ∷ 9 ∷ 10 ∷ 11 ∷ 12 ∷ 13 ∷ 14 ∷ [])
+  pub never : Never applies (3 ∷ 6 ∷ 9 ∷ 10 ∷ 11 ∷ 12 ∷ 13 ∷ 14 ∷ 17 ∷ [])
 
 pub record GivenE4 (e p : List ℕ) (room : ℕ) (applies : ℕ → Bool) : Type 0 where
   pub row5 : Exactly (applies 5) (BadChain p)
@@ -214,18 +230,20 @@ pub record GivenE4 (e p : List ℕ) (room : ℕ) (applies : ℕ → Bool) : Type
   pub row8 : Exactly (applies 8) (OfSession (Entry.session e) (upper p) → ⊥)
   pub row15 : Exactly (applies 15) (65535 < 44 + length (behind p))
   pub row16 : Exactly (applies 16) (room < 44 + length (behind p))
-  pub never : Never applies (3 ∷ 6 ∷ 9 ∷ 10 ∷ 11 ∷ 12 ∷ 13 ∷ 14 ∷ [])
+  pub never : Never applies (3 ∷ 6 ∷ 9 ∷ 10 ∷ 11 ∷ 12 ∷ 13 ∷ 14 ∷ 17 ∷ [])
 
--- D4, where the packet that is sent is an IPv6 header and a payload; with no waypoints there is no SRH
+-- D4, where the packet that is sent is an IPv6 header and a payload; with no waypoints there is no SRH. A reply has 42 octets.
 pub record GivenD4 (r p : List ℕ) (room : ℕ) (applies : ℕ → Bool) : Type 0 where
   pub row8 : Exactly (applies 8) (NotGtpu (Ipv4.protocol p) (drop 20 p))
   pub datagram : GivenDatagram (Rule.direction r) (Rule.session r) (drop 20 p) applies
   pub row15Past : 0 < Rule.waypointCount r
-      → Exactly (applies 15) (65535 < 8 + 16 * (Rule.waypointCount r + 1) + length (Gtpu.innerOf (drop 20 p)))
-  pub row16Past : 0 < Rule.waypointCount r
+      → Exactly (applies 15) (NoEcho (drop 20 p) (65535 < 8 + 16 * (Rule.waypointCount r + 1) + length (Gtpu.innerOf (drop 20 p))))
+  pub row16Past : (Echo (drop 20 p) → ⊥) → 0 < Rule.waypointCount r
       → Exactly (applies 16) (room < 48 + 16 * (Rule.waypointCount r + 1) + length (Gtpu.innerOf (drop 20 p)))
-  pub row15Plain : Rule.waypointCount r ≡ 0 → Exactly (applies 15) (65535 < length (Gtpu.innerOf (drop 20 p)))
-  pub row16Plain : Rule.waypointCount r ≡ 0 → Exactly (applies 16) (room < 40 + length (Gtpu.innerOf (drop 20 p)))
+  pub row15Plain : Rule.waypointCount r ≡ 0 → Exactly (applies 15) (NoEcho (drop 20 p) (65535 < length (Gtpu.innerOf (drop 20 p))))
+  pub row16Plain : (Echo (drop 20 p) → ⊥) → Rule.waypointCount r ≡ 0
+      → Exactly (applies 16) (room < 40 + length (Gtpu.innerOf (drop 20 p)))
+  pub row16Echo : Echo (drop 20 p) → Exactly (applies 16) (room < 42)
   pub never : Never applies (5 ∷ 6 ∷ 7 ∷ [])
 
 -- at an entry, by the behaviours' numbers in RFC 8986 and RFC 9433

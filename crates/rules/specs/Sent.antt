@@ -1,6 +1,6 @@
 -- What a call that sends has sent: the fields of "What is written", by the behaviour of the entry that matches.
 use mathlib.Core.Path.{_≡_}
-use mathlib.Core.Logic.{_≢_}
+use mathlib.Core.Logic.{_≢_, _⊎_}
 use mathlib.Core.Bool.{true, _||_}
 use mathlib.Core.List.{List, []}
 use Prim.Native.Nat.{ℕ, _+_, _*_}
@@ -14,11 +14,11 @@ use Rattle.rules.specs.Ipv6 as Ipv6
 use Rattle.rules.specs.Ipv4 as Ipv4
 use Rattle.rules.specs.Srh as Srh
 use Rattle.rules.specs.Gtpu as Gtpu
-use Rattle.rules.specs.Carried.{Carried, carried6}
+use Rattle.rules.specs.Carried.{Carried, carried6, carried4}
 use Rattle.rules.specs.E6.{e6Carried}
 use Rattle.rules.specs.E4.{e4Carried}
 use Rattle.rules.specs.Refused.{behind}
-use Rattle.rules.specs.Written.{WrittenWaypoint, WrittenD, WrittenDi, WrittenE6, WrittenE4}
+use Rattle.rules.specs.Written.{WrittenWaypoint, WrittenD, WrittenDi, WrittenE6, WrittenE4, WrittenD4, WrittenEcho6, WrittenEcho4}
 
 -- WHAT IS READ, where Written.antt says what is written: the values c that are carried, through the readers of the layouts
 
@@ -63,12 +63,26 @@ pub record ReadAtE4 (e p : List ℕ) (c : Carried) : Type 0 where
 
 -- WHAT IS SENT
 
+-- D, Di and D4 take messages of two types (TS 29.281): a G-PDU and an Echo Request
+abbrev pub Taken : (u : List ℕ) → Type 0
+Taken u = (Gtpu.messageType u ≡ 255) ⊎ (Gtpu.messageType u ≡ 1)
+
 -- packet p became x at entry e of table t; the entry has one of these behaviours, by their numbers in RFC 8986 and RFC 9433
 pub record SentAtEntry (t e p x : List ℕ) : Type 0 where
   pub known : eqb (Entry.behaviour e) 1
       || (eqb (Entry.behaviour e) 69 || (eqb (Entry.behaviour e) 70 || (eqb (Entry.behaviour e) 71 || eqb (Entry.behaviour e) 72))) ≡ true
   pub waypoint : Entry.behaviour e ≡ 1 → WrittenWaypoint p x
-  pub d : Entry.behaviour e ≡ 69 → WrittenD e (policyAt t (Entry.policy e)) (carried6 p) x
-  pub di : Entry.behaviour e ≡ 70 → WrittenDi e (policyAt t (Entry.policy e)) (carried6 p) x
+  pub d : Entry.behaviour e ≡ 69 → Gtpu.messageType (behind p) ≡ 255 → WrittenD e (policyAt t (Entry.policy e)) (carried6 p) x
+  pub di : Entry.behaviour e ≡ 70 → Gtpu.messageType (behind p) ≡ 255 → WrittenDi e (policyAt t (Entry.policy e)) (carried6 p) x
   pub e6 : Entry.behaviour e ≡ 71 → WrittenE6 e (e6Carried e p) x
   pub e4 : Entry.behaviour e ≡ 72 → WrittenE4 e (e4Carried e p) x
+  pub takenD : Entry.behaviour e ≡ 69 → Taken (behind p)
+  pub takenDi : Entry.behaviour e ≡ 70 → Taken (behind p)
+  pub echoD : Entry.behaviour e ≡ 69 → Gtpu.messageType (behind p) ≡ 1 → WrittenEcho6 e p (behind p) x
+  pub echoDi : Entry.behaviour e ≡ 70 → Gtpu.messageType (behind p) ≡ 1 → WrittenEcho6 e p (behind p) x
+
+-- packet p became x at rule r
+pub record SentAtRule (r p x : List ℕ) : Type 0 where
+  pub taken : Taken (drop 20 p)
+  pub d4 : Gtpu.messageType (drop 20 p) ≡ 255 → WrittenD4 r (carried4 p) x
+  pub echo : Gtpu.messageType (drop 20 p) ≡ 1 → WrittenEcho4 r p (drop 20 p) x

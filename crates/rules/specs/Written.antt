@@ -2,7 +2,7 @@
 -- writer is named here.
 use mathlib.Core.Path.{_≡_}
 use mathlib.Core.Logic.{_≢_}
-use mathlib.Core.List.{List}
+use mathlib.Core.List.{List, [], _∷_}
 use Prim.Native.Nat.{ℕ, _+_, _-_, _*_, _/_, _%_, _≤_, _<_}
 use lib.ListN.{length, drop}
 use Rattle.rules.specs.Octets.{octet, window}
@@ -88,6 +88,28 @@ pub record GtpuFields (u : List ℕ) (direction : ℕ) (args : Args) (inner : Li
   pub topBit : Gtpu.topBit u ≡ 0
   pub followingType : Gtpu.followingType u ≡ 0
   pub innerOctets : Gtpu.innerOf u ≡ inner
+
+-- UDP and an Echo Response (TS 29.281, 7.2.2) to the datagram `request`: from 2152 to its source port, with its sequence number; S only, TEID
+-- 0, N-PDU number and next type 0, and behind these one Recovery element with restart counter 0
+pub record EchoFields (u request : List ℕ) : Type 0 where
+  pub sourcePort : Gtpu.sourcePort u ≡ 2152
+  pub destinationPort : Gtpu.destinationPort u ≡ Gtpu.sourcePort request
+  pub udpLength : Gtpu.udpLength u ≡ 22
+  pub udpChecksum : Gtpu.udpChecksum u ≡ 0
+  pub size : length u ≡ 22
+  pub version : Gtpu.version u ≡ 1
+  pub protocolType : Gtpu.protocolType u ≡ 1
+  pub spareBit : Gtpu.spareBit u ≡ 0
+  pub extensionFlag : Gtpu.extensionFlag u ≡ 0
+  pub sequenceFlag : Gtpu.sequenceFlag u ≡ 1
+  pub nPduFlag : Gtpu.nPduFlag u ≡ 0
+  pub messageType : Gtpu.messageType u ≡ 2
+  pub messageLength : Gtpu.messageLength u ≡ 6
+  pub teid : Gtpu.teid u ≡ 0 ∷ 0 ∷ 0 ∷ 0 ∷ []
+  pub sequenceNumber : Gtpu.sequenceNumber u ≡ Gtpu.sequenceNumber request
+  pub nPduNumber : Gtpu.nPduNumber u ≡ 0
+  pub extensionType : Gtpu.extensionType u ≡ 0
+  pub elements : drop 20 u ≡ 14 ∷ 0 ∷ []
 
 -- next header: 4, 41 or 143 for IPv4, IPv6 or Ethernet sessions; an IPv4v6 session takes 4 or 41 from the inner first nibble
 pub record SessionHeader (session next : ℕ) (inner : List ℕ) : Type 0 where
@@ -193,6 +215,19 @@ pub record WrittenE4 (e : List ℕ) (c : Carried) (p : List ℕ) : Type 0 where
   pub ipv4 : Ipv4Fields p (c .trafficClass) (44 + length (c .inner)) (Entry.hopLimit e) (c .source) (c .destination)
   pub udp : UdpFields (drop 20 p) (Entry.sourcePort e) (24 + length (c .inner))
   pub gtpu : GtpuFields (drop 20 p) (Entry.direction e) (c .args) (c .inner)
+
+-- The reply x to the Echo Request p, at the entry e of D or Di and at the rule r: addresses exchanged, the request's traffic class (TOS), the
+-- entry's hop limit or the rule's TTL. There is no SRH. The request's datagram is u.
+pub record WrittenEcho6 (e p u x : List ℕ) : Type 0 where
+  pub ipv6 : Ipv6Fields x (Ipv6.trafficClass p) 22 (Entry.hopLimit e)
+  pub nextHeader : Ipv6.nextHeader x ≡ 17
+  pub source : Ipv6.source x ≡ Ipv6.destination p
+  pub destination : Ipv6.destination x ≡ Ipv6.source p
+  pub echo : EchoFields (drop 40 x) u
+
+pub record WrittenEcho4 (r p u x : List ℕ) : Type 0 where
+  pub ipv4 : Ipv4Fields x (Ipv4.tos p) 42 (Rule.hopLimit r) (Ipv4.destination p) (Ipv4.source p)
+  pub echo : EchoFields (drop 20 x) u
 
 -- Waypoint (RFC 8986, 4.1): packet p is copied to q; only hop limit (octet 7), destination (24 to 39) and SL (43) change
 pub record WrittenWaypoint (p q : List ℕ) : Type 0 where

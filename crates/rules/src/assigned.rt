@@ -45,12 +45,18 @@ pub const DOWNLINK: u8 = 0;
 
 pub const UPLINK: u8 = 1;
 
-// UDP port, message type of a G-PDU and type of the PDU Session container (TS 29.281).
+// UDP port, message types, type of the PDU Session container and of the Recovery element (TS 29.281).
 pub const GTPU_PORT: u16 = 2152;
+
+pub const ECHO_REQUEST: u8 = 1;
+
+pub const ECHO_RESPONSE: u8 = 2;
 
 pub const G_PDU: u8 = 255;
 
 pub const PDU_SESSION_CONTAINER: u8 = 0x85;
+
+pub const RECOVERY: u8 = 14;
 
 // ICMPv6 types (RFC 4443).
 pub const TIME_EXCEEDED: u8 = 3;

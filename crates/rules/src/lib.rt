@@ -166,6 +166,13 @@ impl Refusal {
     {
         Refusal::plain(16)
     }
+
+    // Row 17. An Echo Request without S, or with a TEID other than 0.
+    pub fn bad_echo() -> Refusal
+        ensures { λ r. ⌜ r ≡ plain 17 ⌝ }
+    {
+        Refusal::plain(17)
+    }
 }
 
 // What rows of the answer table say of a packet.

@@ -1,18 +1,19 @@
--- What D, Di and D4 send passed the rows that are asked here, so that its number is found exactly where S is set.
+-- A G-PDU that D, Di or D4 sends on passed the rows that are asked here, so that its number is found exactly where S is set.
 use mathlib.Core.Path.{_≡_, refl, sym, ap, _∙_}
 use mathlib.Core.Logic.{_⊎_, inl, inr}
 use mathlib.Core.List.{List, [], _∷_}
 use Prim.Native.Nat.{ℕ}
 use native.Mathlib.Omega.{arith}
 use Rattle.rules.specs.Octets.{number}
-use Rattle.rules.specs.Assigned.{endMGtp6D, endMGtp6DDi}
+use Rattle.rules.specs.Assigned.{endMGtp6D, endMGtp6DDi, gPdu}
 use Rattle.rules.specs.Table.{entryAt, ruleAt, policyAt}
 use Rattle.rules.specs.Entry as Entry
 use Rattle.rules.specs.Rule as Rule
 use Rattle.rules.specs.Ipv6 as Ipv6
 use Rattle.rules.specs.Ipv4 as Ipv4
 use Rattle.rules.specs.Match.{matchEntry, matchRule}
-use Rattle.rules.specs.Answer.{row, verdict, Sent, outcome}
+use Rattle.rules.specs.Gtpu as Gtpu
+use Rattle.rules.specs.Answer.{row, verdict, Decision, Sent, outcome}
 use Rattle.rules.specs.Header.{header, malformed}
 use Rattle.rules.specs.Datagram.{datagram, messageRows, gPduRows}
 use Rattle.rules.specs.Carried.{carriedBy, carried6, carried4, datagramIn6, datagramIn4}
@@ -28,6 +29,8 @@ use Rattle.rules.specs.declared.Found.the-variants.{At, Nothing}
 use Rattle.rules.proofs.Rows.{Clear, None, none-pass, pass-none, none-append, none-parts, unless-sent, sent-settle}
 use Rattle.rules.proofs.Deciding.{settled6, settled4, at-found-entry, at-found-rule, at-no-rule}
 use Rattle.rules.proofs.Entries.{at-d, at-di}
+use Rattle.rules.proofs.NearGtp6D.{gPdu-decides}
+use Rattle.rules.proofs.NearD4.{gPdu-at-d4}
 use Rattle.sequence.specs.Sequence.{rows9To11, gPduRows6, gPduRows4, teid, sequence6, sequence4, ByFlag}
 use Rattle.sequence.proofs.Numbering.{passed-flag}
 
@@ -65,10 +68,10 @@ NearGtp6D e = (Entry.behaviour e ≡ endMGtp6D) ⊎ (Entry.behaviour e ≡ endMG
 
 module _ (p t : List ℕ) (room : ℕ) (x : List ℕ) where
   -- the IPv6 call, where the entry that matches is one of them
-  pub sent-passes6 : (i : ℕ) → translate6 p t room ≡ Sent x → matchEntry t (Ipv6.destination p) ≡ At i → NearGtp6D (entryAt t i)
-      → verdict (gPduRows6 p) ≡ Pass
+  pub sent-passes6 : (i : ℕ) → Gtpu.messageType (datagramIn6 p) ≡ gPdu → translate6 p t room ≡ Sent x
+      → matchEntry t (Ipv6.destination p) ≡ At i → NearGtp6D (entryAt t i) → verdict (gPduRows6 p) ≡ Pass
   unfolding frontRows6 atD atDi
-  sent-passes6 i h m b =
+  sent-passes6 i type h m b =
       let found = atFoundEntry t p (matchEntry t (Ipv6.destination p)) in
       let (n, k) = unless-sent (frontRows6 t (header p)) found x (sent-settle room _ x (sym (settled6 p t room) ∙ h)) in
       go b (n .1 .0) (sym (ap (λ (f : Found). atFoundEntry t p f) m ∙ at-found-entry t p i) ∙ k)
@@ -82,22 +85,23 @@ module _ (p t : List ℕ) (room : ℕ) (x : List ℕ) where
       along : (path : List (List ℕ)) (made : List ℕ) → Clear (malformed (header p)) → outcome (decideGtp6D e path made p) ≡ Sent x
           → verdict (gPduRows6 p) ≡ Pass
       along path made front k =
-          let n = unless-sent (rowsGtp6D e path p) (Sent made) x k .0 in
+          let here = sym (ap (λ (d : Decision). outcome d) (gPdu-decides e path made p type)) ∙ k in
+          let n = unless-sent (rowsGtp6D e path p) (Sent made) x here .0 in
           gtp6D-passes e path p (none-pass (row (malformed (header p)) 2 ∷ rowsGtp6D e path p) (front, n))
 
       go : NearGtp6D e → Clear (malformed (header p)) → atEntry t e p ≡ Sent x → verdict (gPduRows6 p) ≡ Pass
       go (inl d) front k = along (dPath y (carried6 p)) (dPacket e y (carried6 p)) front (sym (at-d t e p d) ∙ k)
       go (inr d) front k = along (diPath y (carried6 p)) (diPacket e y (carried6 p)) front (sym (at-di t e p d) ∙ k)
 
-  pub sent-flag6 : (i : ℕ) → translate6 p t room ≡ Sent x → matchEntry t (Ipv6.destination p) ≡ At i → NearGtp6D (entryAt t i)
-      → ByFlag (datagramIn6 p) (sequence6 p)
+  pub sent-flag6 : (i : ℕ) → Gtpu.messageType (datagramIn6 p) ≡ gPdu → translate6 p t room ≡ Sent x
+      → matchEntry t (Ipv6.destination p) ≡ At i → NearGtp6D (entryAt t i) → ByFlag (datagramIn6 p) (sequence6 p)
   unfolding sequence6
-  sent-flag6 i h m b = passed-flag (gPduRows6 p) (datagramIn6 p) (sent-passes6 i h m b)
+  sent-flag6 i type h m b = passed-flag (gPduRows6 p) (datagramIn6 p) (sent-passes6 i type h m b)
 
   -- the IPv4 call: whatever it sends, D4 sends
-  pub sent-passes4 : translate4 p t room ≡ Sent x → verdict (gPduRows4 p) ≡ Pass
-  unfolding frontRows4 atD4
-  sent-passes4 h =
+  pub sent-passes4 : Gtpu.messageType (datagramIn4 p) ≡ gPdu → translate4 p t room ≡ Sent x → verdict (gPduRows4 p) ≡ Pass
+  unfolding frontRows4
+  sent-passes4 type h =
       let match = matchRule t (Ipv4.destination p) in
       let (n, k) = unless-sent (frontRows4 t (header4 p)) (atFoundRule t p match) x (sent-settle room _ x (sym (settled4 p t room) ∙ h)) in
       go match (n .1) k
@@ -110,13 +114,14 @@ module _ (p t : List ℕ) (room : ℕ) (x : List ℕ) where
           absurd (omega arith)
       go (At i) front k =
           let r = ruleAt t i in
-          let n = unless-sent (rowsD4 r p) (Sent (d4Packet r (carried4 p))) x (sym (at-found-rule t p i) ∙ k) .0 in
+          let here = sym (gPdu-at-d4 r p type) ∙ sym (at-found-rule t p i) ∙ k in
+          let n = unless-sent (rowsD4 r p) (Sent (d4Packet r (carried4 p))) x here .0 in
           d4-passes r p
           (none-pass (row (malformed4 (header4 p)) 2 ∷ row (badHeader4 (header4 p)) 3 ∷ rowsD4 r p) (front .0, (front .1 .0, n)))
 
-  pub sent-flag4 : translate4 p t room ≡ Sent x → ByFlag (datagramIn4 p) (sequence4 p)
+  pub sent-flag4 : Gtpu.messageType (datagramIn4 p) ≡ gPdu → translate4 p t room ≡ Sent x → ByFlag (datagramIn4 p) (sequence4 p)
   unfolding sequence4
-  sent-flag4 h = passed-flag (gPduRows4 p) (datagramIn4 p) (sent-passes4 h)
+  sent-flag4 type h = passed-flag (gPduRows4 p) (datagramIn4 p) (sent-passes4 type h)
 
 -- the TEID that is found is the one that goes into Args
 pub teid-carried6 : (p : List ℕ) → teid (datagramIn6 p) ≡ number (carried6 p .args .teid) 0 4
