@@ -12,7 +12,7 @@ const SR_UPPER_LAYER_HEADER_ERROR: u8 = 4;
 const SEGMENTS_LEFT_OFFSET: u16 = 43;
 
 /// The answer numbers in words, those of `kawsarpa.h`.
-const NAMES: [&str; 17] = [
+const NAMES: [&str; 18] = [
     "sent",
     "table not sound",
     "malformed packet",
@@ -30,6 +30,7 @@ const NAMES: [&str; 17] = [
     "bad inner packet",
     "too long",
     "no room",
+    "bad Echo Request",
 ];
 
 /// One answer: number, ICMP type, code and pointer, length.
@@ -86,7 +87,7 @@ impl fmt::Display for Answer {
     }
 }
 
-/// Why a packet is refused; the order is that of the answer numbers.
+/// Why a packet is refused; the order is that in which the rows are tested.
 #[derive(Clone, Copy, Debug, PartialEq, Eq)]
 pub enum Refusal {
     /// 1: table not sound.
@@ -111,6 +112,8 @@ pub enum Refusal {
     Udp,
     /// 10: GTP-U header.
     GtpuHeader,
+    /// 17: Echo Request without S, or with a TEID other than 0; in the place of 11 for that type.
+    EchoRequest,
     /// 11: GTP-U message type.
     GtpuType,
     /// 12: GTP-U extension headers.
@@ -144,6 +147,7 @@ impl Refusal {
             Refusal::InnerVersion => 14,
             Refusal::TooLong => 15,
             Refusal::NoRoom => 16,
+            Refusal::EchoRequest => 17,
         };
         let (icmp_type, icmp_code, icmp_pointer) = match self {
             Refusal::HopLimit => (TIME_EXCEEDED, 0, 0),
@@ -188,6 +192,10 @@ mod tests {
         assert_eq!(Answer::sent(0).to_string(), "0 (sent), length 0");
         assert_eq!(Refusal::NotGtpu.answer().to_string(), "8 (bad upper layer)");
         assert_eq!(
+            Refusal::EchoRequest.answer().to_string(),
+            "17 (bad Echo Request)"
+        );
+        assert_eq!(
             Refusal::HopLimit.answer().to_string(),
             "6 (hop limit exceeded), ICMP 3 0 0"
         );
@@ -208,5 +216,6 @@ mod tests {
         );
         assert_eq!(Refusal::NotGtpu.answer().pack(), 8);
         assert_eq!(Refusal::NoRoom.answer().pack(), 16);
+        assert_eq!(Refusal::EchoRequest.answer().pack(), 17);
     }
 }

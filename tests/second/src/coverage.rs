@@ -4,7 +4,7 @@ use crate::generate::{self, Kind};
 use std::fmt;
 use std::ops::AddAssign;
 
-pub const NUMBERS: usize = 17;
+pub const NUMBERS: usize = 18;
 
 #[derive(Clone, Debug, Default, PartialEq, Eq)]
 pub struct Coverage {
@@ -139,7 +139,7 @@ mod tests {
         assert_eq!(coverage.findings(), [Finding::Stray(Kind::E6, 15)]);
         assert_eq!(
             Coverage::default().findings().len(),
-            9 + 15 + 15 + 8 + 9 + 14
+            9 + 16 + 16 + 8 + 9 + 15
         );
         assert!(Coverage::default().judge().is_err());
     }

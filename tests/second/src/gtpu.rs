@@ -1,4 +1,4 @@
-//! GTP-U and the PDU Session container (TS 29.281, TS 38.415; docs/RULES.md, Answers 10 to 13).
+//! GTP-U and the PDU Session container (TS 29.281, TS 38.415; docs/RULES.md, Answers 10 to 13 and 17).
 
 use crate::answer::Refusal;
 use crate::args::ArgsMobSession;
@@ -13,7 +13,12 @@ pub mod flag {
     pub const S: u8 = 0x02;
     pub const PN: u8 = 0x01;
 }
+/// Message types (TS 29.281, 6.1).
+pub const ECHO_REQUEST: u8 = 1;
+pub const ECHO_RESPONSE: u8 = 2;
 pub const G_PDU: u8 = 255;
+/// The Recovery element (TS 29.281, 8.2), one octet of value.
+pub const RECOVERY: u8 = 14;
 pub const PDU_SESSION_CONTAINER: u8 = 0x85;
 /// What the length field does not count.
 pub const MANDATORY_LENGTH: usize = 8;
@@ -58,23 +63,32 @@ pub struct GPdu<'a> {
     pub inner: &'a [u8],
 }
 
-/// Rows 10 to 13 in their order.
-pub fn parse(octets: &[u8], direction: Direction) -> Result<GPdu<'_>, Refusal> {
-    let header = Header::of_g_pdu(octets)?;
-    let (container, inner) = header.extensions()?;
-    match container {
-        Some(c) if c.is_of(direction) => Ok(GPdu {
-            args: c.args(direction, header.teid),
-            inner,
-        }),
-        _ => Err(Refusal::Container),
+/// What a reply takes from an Echo Request (TS 29.281, 7.2.1).
+#[derive(Clone, Copy, Debug, PartialEq, Eq)]
+pub struct EchoRequest {
+    pub sequence_number: u16,
+}
+
+/// A message that D, Di and D4 take.
+#[derive(Clone, Copy, Debug, PartialEq, Eq)]
+pub enum Message<'a> {
+    GPdu(GPdu<'a>),
+    EchoRequest(EchoRequest),
+}
+
+/// Row 10; then 17 for an Echo Request, 11 to 13 for every other message.
+pub fn parse(octets: &[u8], direction: Direction) -> Result<Message<'_>, Refusal> {
+    let header = Header::parse(octets)?;
+    match header.message_type {
+        ECHO_REQUEST => header.echo_request().map(Message::EchoRequest),
+        _ => header.g_pdu(direction).map(Message::GPdu),
     }
 }
 
 #[derive(Clone, Copy, Debug)]
 pub struct Header<'a> {
     pub flags: u8,
-    message_type: u8,
+    pub message_type: u8,
     pub teid: u32,
     pub sequence_number: Option<u16>,
     /// 0 if there is none.
@@ -83,12 +97,44 @@ pub struct Header<'a> {
 }
 
 impl<'a> Header<'a> {
+    /// Row 10: cut short, not version 1 or PT 1, or the length disagrees.
+    pub fn parse(octets: &'a [u8]) -> Result<Self, Refusal> {
+        Self::read(octets).ok_or(Refusal::GtpuHeader)
+    }
+
     /// Rows 10 and 11.
     pub fn of_g_pdu(octets: &'a [u8]) -> Result<Self, Refusal> {
-        let header = Self::read(octets).ok_or(Refusal::GtpuHeader)?;
-        match header.message_type {
-            G_PDU => Ok(header),
+        let header = Self::parse(octets)?;
+        header.require_g_pdu()?;
+        Ok(header)
+    }
+
+    /// Row 11.
+    fn require_g_pdu(&self) -> Result<(), Refusal> {
+        match self.message_type {
+            G_PDU => Ok(()),
             _ => Err(Refusal::GtpuType),
+        }
+    }
+
+    /// Rows 11 to 13.
+    fn g_pdu(&self, direction: Direction) -> Result<GPdu<'a>, Refusal> {
+        self.require_g_pdu()?;
+        let (container, inner) = self.extensions()?;
+        match container {
+            Some(c) if c.is_of(direction) => Ok(GPdu {
+                args: c.args(direction, self.teid),
+                inner,
+            }),
+            _ => Err(Refusal::Container),
+        }
+    }
+
+    /// Row 17: without S, or with a TEID other than 0. Nothing else is examined.
+    fn echo_request(&self) -> Result<EchoRequest, Refusal> {
+        match (self.sequence_number, self.teid) {
+            (Some(sequence_number), 0) => Ok(EchoRequest { sequence_number }),
+            _ => Err(Refusal::EchoRequest),
         }
     }
 
@@ -97,7 +143,6 @@ impl<'a> Header<'a> {
         walk_extensions(self.first_extension, self.rest)
     }
 
-    /// Row 10: cut short, not version 1 or PT 1, or the length disagrees.
     fn read(octets: &'a [u8]) -> Option<Self> {
         let mut reader = Reader::new(octets);
         let flags = reader.u8()?;
@@ -174,19 +219,60 @@ mod tests {
         0x00, 0x60, 0x00,
     ];
 
+    /// TEID 0, number 0506.
+    const ECHO: [u8; 12] = [0x32, 1, 0, 4, 0, 0, 0, 0, 5, 6, 0, 0];
+
+    fn g_pdu(octets: &[u8], direction: Direction) -> GPdu<'_> {
+        match parse(octets, direction) {
+            Ok(Message::GPdu(pdu)) => pdu,
+            other => panic!("{other:?}"),
+        }
+    }
+
     #[test]
     fn the_worked_packet() {
-        let pdu = parse(&WORKED, Direction::Downlink).unwrap();
+        let pdu = g_pdu(&WORKED, Direction::Downlink);
         assert_eq!(pdu.args.to_bits(), 0x26_0102_0304);
         assert_eq!(pdu.inner, [0x60, 0x00]);
         assert_eq!(parse(&WORKED, Direction::Uplink), Err(Refusal::Container));
     }
 
     #[test]
+    fn echo_requests() {
+        let sequence_number = 0x0506;
+        let taken = Ok(Message::EchoRequest(EchoRequest { sequence_number }));
+        for (octet, value, wanted) in [
+            (0, 0x32, taken),
+            (0, 0x33, taken),
+            // Next type 0 and 85; nothing is there for the second.
+            (0, 0x36, taken),
+            (11, 0x85, taken),
+            (0, 0x3f, taken),
+            (0, 0x31, Err(Refusal::EchoRequest)),
+            (0, 0x34, Err(Refusal::EchoRequest)),
+            (4, 1, Err(Refusal::EchoRequest)),
+            (7, 0x80, Err(Refusal::EchoRequest)),
+            (0, 0x52, Err(Refusal::GtpuHeader)),
+            (3, 5, Err(Refusal::GtpuHeader)),
+            (1, ECHO_RESPONSE, Err(Refusal::GtpuType)),
+        ] {
+            let mut message = ECHO;
+            message[octet] = value;
+            for direction in [Direction::Downlink, Direction::Uplink] {
+                assert_eq!(parse(&message, direction), wanted, "octet {octet}");
+            }
+        }
+        let mut short = [0x30, 1, 0, 0, 0, 0, 0, 0];
+        assert_eq!(parse(&short, Direction::Uplink), Err(Refusal::EchoRequest));
+        short[0] = 0x32;
+        assert_eq!(parse(&short, Direction::Uplink), Err(Refusal::GtpuHeader));
+    }
+
+    #[test]
     fn reflective_is_not_read_in_uplink() {
         let mut packet = WORKED;
         packet[13] = 0x10;
-        let pdu = parse(&packet, Direction::Uplink).unwrap();
+        let pdu = g_pdu(&packet, Direction::Uplink);
         assert_eq!(pdu.args.to_bits(), 0x24_0102_0304);
         assert_eq!(
             Container::contents(
@@ -237,6 +323,6 @@ mod tests {
         // No inner octets.
         let mut empty = WORKED[..16].to_vec();
         empty[3] = 8;
-        assert_eq!(parse(&empty, Direction::Downlink).unwrap().inner, []);
+        assert_eq!(g_pdu(&empty, Direction::Downlink).inner, []);
     }
 }

@@ -12,6 +12,9 @@ const DONT_FRAGMENT: u16 = 0x4000;
 const LENGTH_FIELD_MAX: usize = 65_535;
 /// Header with the four octets more, and a container of one unit.
 const GTPU_LENGTH: usize = gtpu::MANDATORY_LENGTH + 4 + 4;
+/// What the length field of an Echo Response counts: the four octets more, and Recovery.
+const ECHO_COUNTED: usize = 4 + 2;
+const ECHO_LENGTH: usize = udp::HEADER_LENGTH + gtpu::MANDATORY_LENGTH + ECHO_COUNTED;
 
 /// A packet ready to be written.
 #[derive(Clone, Debug)]
@@ -59,22 +62,39 @@ pub struct Tunnel<'a> {
     pub inner: &'a [u8],
 }
 
+/// The reply to an Echo Request (TS 29.281, 7.2.2), with what it takes from the request.
+#[derive(Clone, Copy, Debug)]
+pub struct EchoResponse {
+    /// The request's source port.
+    pub destination_port: u16,
+    pub sequence_number: u16,
+}
+
+/// UDP around GTP-U.
+#[derive(Clone, Debug)]
+pub enum Datagram<'a> {
+    Tunnel(Tunnel<'a>),
+    EchoResponse(EchoResponse),
+}
+
+/// From E6, or in reply at D and Di.
 #[derive(Clone, Debug)]
 pub struct Gtp6Packet<'a> {
     pub traffic_class: u8,
     pub hop_limit: u8,
     pub source: u128,
     pub destination: u128,
-    pub tunnel: Tunnel<'a>,
+    pub datagram: Datagram<'a>,
 }
 
+/// From E4, or in reply at D4.
 #[derive(Clone, Debug)]
 pub struct Gtp4Packet<'a> {
     pub tos: u8,
     pub ttl: u8,
     pub source: u32,
     pub destination: u32,
-    pub tunnel: Tunnel<'a>,
+    pub datagram: Datagram<'a>,
 }
 
 impl Outgoing<'_> {
@@ -109,8 +129,8 @@ impl Outgoing<'_> {
         match self {
             Outgoing::Advanced(packet) => packet.packet.len() - ipv6::HEADER_LENGTH,
             Outgoing::Sr(packet) => packet.srh_length() + packet.inner.len(),
-            Outgoing::Gtp6(packet) => packet.tunnel.length(),
-            Outgoing::Gtp4(packet) => ipv4::HEADER_LENGTH + packet.tunnel.length(),
+            Outgoing::Gtp6(packet) => packet.datagram.length(),
+            Outgoing::Gtp4(packet) => ipv4::HEADER_LENGTH + packet.datagram.length(),
         }
     }
 }
@@ -128,6 +148,14 @@ fn write_ipv6(
     octets.extend([next_header, hop_limit]);
     octets.extend(addresses.0.to_be_bytes());
     octets.extend(addresses.1.to_be_bytes());
+}
+
+/// Checksum 0.
+fn write_udp(octets: &mut Vec<u8>, ports: (u16, u16), length: usize) {
+    octets.extend(ports.0.to_be_bytes());
+    octets.extend(ports.1.to_be_bytes());
+    octets.extend((length as u16).to_be_bytes());
+    octets.extend([0, 0]);
 }
 
 impl Advanced<'_> {
@@ -178,6 +206,38 @@ impl SrPacket<'_> {
     }
 }
 
+impl Datagram<'_> {
+    fn length(&self) -> usize {
+        match self {
+            Datagram::Tunnel(tunnel) => tunnel.length(),
+            Datagram::EchoResponse(_) => ECHO_LENGTH,
+        }
+    }
+
+    fn write(&self, octets: &mut Vec<u8>) {
+        match self {
+            Datagram::Tunnel(tunnel) => tunnel.write(octets),
+            Datagram::EchoResponse(response) => response.write(octets),
+        }
+    }
+}
+
+impl EchoResponse {
+    fn write(&self, octets: &mut Vec<u8>) {
+        let ports = (udp::GTPU_PORT, self.destination_port);
+        write_udp(octets, ports, ECHO_LENGTH);
+        let flags = gtpu::flag::VERSION_1 | gtpu::flag::PT | gtpu::flag::S;
+        octets.extend([flags, gtpu::ECHO_RESPONSE]);
+        octets.extend((ECHO_COUNTED as u16).to_be_bytes());
+        let teid: u32 = 0;
+        octets.extend(teid.to_be_bytes());
+        octets.extend(self.sequence_number.to_be_bytes());
+        let (n_pdu_number, next_type) = (0, 0);
+        octets.extend([n_pdu_number, next_type]);
+        octets.extend([gtpu::RECOVERY, 0]);
+    }
+}
+
 impl Tunnel<'_> {
     /// UDP, GTP-U, inner packet.
     fn length(&self) -> usize {
@@ -185,12 +245,8 @@ impl Tunnel<'_> {
     }
 
     fn write(&self, octets: &mut Vec<u8>) {
-        let udp_length = self.length() as u16;
+        write_udp(octets, (self.source_port, udp::GTPU_PORT), self.length());
         let gtpu_length = (GTPU_LENGTH - gtpu::MANDATORY_LENGTH + self.inner.len()) as u16;
-        octets.extend(self.source_port.to_be_bytes());
-        octets.extend(udp::GTPU_PORT.to_be_bytes());
-        octets.extend(udp_length.to_be_bytes());
-        octets.extend([0, 0]);
         octets.extend([
             gtpu::flag::VERSION_1 | gtpu::flag::PT | gtpu::flag::E,
             gtpu::G_PDU,
@@ -210,18 +266,18 @@ impl Gtp6Packet<'_> {
         write_ipv6(
             octets,
             self.traffic_class,
-            self.tunnel.length(),
+            self.datagram.length(),
             next_header::UDP,
             self.hop_limit,
             addresses,
         );
-        self.tunnel.write(octets);
+        self.datagram.write(octets);
     }
 }
 
 impl Gtp4Packet<'_> {
     fn write(&self, octets: &mut Vec<u8>) {
-        let total_length = (ipv4::HEADER_LENGTH + self.tunnel.length()) as u16;
+        let total_length = (ipv4::HEADER_LENGTH + self.datagram.length()) as u16;
         octets.extend([0x45, self.tos]);
         octets.extend(total_length.to_be_bytes());
         octets.extend([0, 0]);
@@ -231,6 +287,6 @@ impl Gtp4Packet<'_> {
         octets.extend(self.destination.to_be_bytes());
         let checksum = ipv4::checksum(octets);
         octets[10..12].copy_from_slice(&checksum.to_be_bytes());
-        self.tunnel.write(octets);
+        self.datagram.write(octets);
     }
 }

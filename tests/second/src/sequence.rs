@@ -1,7 +1,8 @@
 //! Order 13: TEID and sequence number of a packet as it arrives.
 //!
 //! "Well-formed" is said by the rows of docs/RULES.md, Answers, as at D, Di and D4. No table is asked, so
-//! rows 1 and 4 are not examined; nor are the extensions and what follows them, rows 12 to 16.
+//! rows 1 and 4 are not examined; nor are the extensions and what follows them, rows 12 to 16. An Echo
+//! Request is no G-PDU, so row 11 is for it too here.
 
 pub mod cases;
 pub mod coverage;
@@ -44,7 +45,8 @@ fn ipv6(octets: &[u8]) -> Result<Header<'_>, Refusal> {
     let chain = HeaderChain::parse(&packet)?;
     chain.require_segments_left_0()?;
     let stray = chain.upper_layer_error();
-    Header::of_g_pdu(udp::gtpu_payload(chain.protocol, chain.upper, stray)?)
+    let datagram = udp::to_gtpu(chain.protocol, chain.upper, stray)?;
+    Header::of_g_pdu(datagram.payload)
 }
 
 /// Rows 2, 3 and 8 to 11.
@@ -52,7 +54,8 @@ fn ipv4(octets: &[u8]) -> Result<Header<'_>, Refusal> {
     let packet = Ipv4Packet::parse(octets)?;
     packet.check_header()?;
     let stray = Refusal::NotGtpu;
-    Header::of_g_pdu(udp::gtpu_payload(packet.protocol, packet.payload, stray)?)
+    let datagram = udp::to_gtpu(packet.protocol, packet.payload, stray)?;
+    Header::of_g_pdu(datagram.payload)
 }
 
 #[cfg(test)]

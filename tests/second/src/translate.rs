@@ -1,12 +1,16 @@
-//! The two calls. The stages stand in the order of the answer numbers, so the
-//! first refusal met is the smallest number that applies.
+//! The two calls. The stages stand in the order in which the rows are tested: by
+//! the size of the number, but 17 in the place of 11. The first refusal met is the
+//! answer.
 
 use crate::answer::{Answer, Refusal};
 use crate::args::ArgsMobSession;
 use crate::gtpu;
 use crate::ipv4::Ipv4Packet;
 use crate::ipv6::{HeaderChain, Ipv6Packet, Srh};
-use crate::outgoing::{Advanced, Gtp4Packet, Gtp6Packet, Outgoing, RoutingState, SrPacket, Tunnel};
+use crate::outgoing::{
+    Advanced, Datagram, EchoResponse, Gtp4Packet, Gtp6Packet, Outgoing, RoutingState, SrPacket,
+    Tunnel,
+};
 use crate::table::{Behaviour, Entry, Ipv4Places, Policy, Rule, Session, Table};
 use crate::udp;
 
@@ -48,12 +52,8 @@ fn ipv6(octets: &[u8], table: &[u8], room: usize) -> Result<Vec<u8>, Refusal> {
     };
     let outgoing = match entry.behaviour {
         Behaviour::End => Outgoing::Advanced(arriving.end()?),
-        Behaviour::D { session, policy } => {
-            Outgoing::Sr(arriving.d(session, &table.policies[policy])?)
-        }
-        Behaviour::Di { session, policy } => {
-            Outgoing::Sr(arriving.di(session, &table.policies[policy])?)
-        }
+        Behaviour::D { session, policy } => arriving.d(session, &table.policies[policy])?,
+        Behaviour::Di { session, policy } => arriving.di(session, &table.policies[policy])?,
         Behaviour::E6 {
             session,
             args_start,
@@ -73,30 +73,40 @@ fn ipv4(octets: &[u8], table: &[u8], room: usize) -> Result<Vec<u8>, Refusal> {
     let packet = Ipv4Packet::parse(octets)?;
     packet.check_header()?;
     let rule = table.rule_for(packet.destination)?;
-    Outgoing::Sr(d4(&packet, rule)?).encode(room)
+    d4(&packet, rule)?.encode(room)
 }
 
 /// A user packet out of its tunnel.
-struct Decapsulated<'a> {
+struct UserPacket<'a> {
     args: ArgsMobSession,
     next_header: u8,
     inner: &'a [u8],
 }
 
-/// Rows 8 to 14.
+/// What came to the GTP-U port: a user packet, or a request with its reply.
+enum Decapsulated<'a> {
+    User(UserPacket<'a>),
+    Echo(EchoResponse),
+}
+
+/// Rows 8 to 14 and 17.
 fn decapsulate(
     protocol: u8,
     upper: &[u8],
     session: Session,
     stray: Refusal,
 ) -> Result<Decapsulated<'_>, Refusal> {
-    let payload = udp::gtpu_payload(protocol, upper, stray)?;
-    let gtpu::GPdu { args, inner } = gtpu::parse(payload, session.direction)?;
-    let next_header = session.session_type.next_header_of(inner)?;
-    Ok(Decapsulated {
-        args,
-        next_header,
-        inner,
+    let datagram = udp::to_gtpu(protocol, upper, stray)?;
+    Ok(match gtpu::parse(datagram.payload, session.direction)? {
+        gtpu::Message::GPdu(gtpu::GPdu { args, inner }) => Decapsulated::User(UserPacket {
+            args,
+            next_header: session.session_type.next_header_of(inner)?,
+            inner,
+        }),
+        gtpu::Message::EchoRequest(request) => Decapsulated::Echo(EchoResponse {
+            destination_port: datagram.source_port,
+            sequence_number: request.sequence_number,
+        }),
     })
 }
 
@@ -126,17 +136,23 @@ impl<'a> Arriving<'a, '_> {
     }
 
     /// End.M.GTP6.D (RFC 9433, 6.3).
-    fn d(&self, session: Session, policy: &Policy) -> Result<SrPacket<'a>, Refusal> {
-        let user = self.decapsulate(session)?;
-        Ok(self.sr_packet(policy_segments(policy, user.args), user))
+    fn d(&self, session: Session, policy: &Policy) -> Result<Outgoing<'a>, Refusal> {
+        Ok(match self.decapsulate(session)? {
+            Decapsulated::User(user) => self.sr_packet(policy_segments(policy, user.args), user),
+            Decapsulated::Echo(response) => self.reply(response),
+        })
     }
 
     /// End.M.GTP6.D.Di (RFC 9433, 5.4 and 6.4): the arriving destination is SRH[0].
-    fn di(&self, session: Session, policy: &Policy) -> Result<SrPacket<'a>, Refusal> {
-        let user = self.decapsulate(session)?;
-        let mut segments = policy_segments(policy, user.args);
-        segments.push(self.packet.destination);
-        Ok(self.sr_packet(segments, user))
+    fn di(&self, session: Session, policy: &Policy) -> Result<Outgoing<'a>, Refusal> {
+        Ok(match self.decapsulate(session)? {
+            Decapsulated::User(user) => {
+                let mut segments = policy_segments(policy, user.args);
+                segments.push(self.packet.destination);
+                self.sr_packet(segments, user)
+            }
+            Decapsulated::Echo(response) => self.reply(response),
+        })
     }
 
     /// End.M.GTP6.E (RFC 9433, 6.5).
@@ -158,7 +174,7 @@ impl<'a> Arriving<'a, '_> {
             hop_limit: self.entry.hop_limit,
             source: self.entry.source,
             destination,
-            tunnel: self.tunnel(session, source_port, args)?,
+            datagram: self.tunnel(session, source_port, args)?,
         })
     }
 
@@ -176,7 +192,7 @@ impl<'a> Arriving<'a, '_> {
             ttl: self.entry.hop_limit,
             source: ipv4_in(self.packet.source, places.q),
             destination: ipv4_in(self.packet.destination, places.p),
-            tunnel: self.tunnel(session, source_port, args)?,
+            datagram: self.tunnel(session, source_port, args)?,
         })
     }
 
@@ -190,8 +206,8 @@ impl<'a> Arriving<'a, '_> {
         )
     }
 
-    fn sr_packet(&self, segments: Vec<u128>, user: Decapsulated<'a>) -> SrPacket<'a> {
-        SrPacket {
+    fn sr_packet(&self, segments: Vec<u128>, user: UserPacket<'a>) -> Outgoing<'a> {
+        Outgoing::Sr(SrPacket {
             traffic_class: self.packet.traffic_class,
             hop_limit: self.entry.hop_limit,
             source: self.entry.source,
@@ -199,7 +215,25 @@ impl<'a> Arriving<'a, '_> {
             segments,
             next_header: user.next_header,
             inner: user.inner,
-        }
+        })
+    }
+
+    /// Addresses exchanged; an SRH that arrived is not sent.
+    fn reply(&self, response: EchoResponse) -> Outgoing<'a> {
+        let Ipv6Packet {
+            traffic_class,
+            source: requester,
+            destination: asked,
+            ..
+        } = self.packet;
+        let hop_limit = self.entry.hop_limit;
+        Outgoing::Gtp6(Gtp6Packet {
+            traffic_class,
+            hop_limit,
+            source: asked,
+            destination: requester,
+            datagram: Datagram::EchoResponse(response),
+        })
     }
 
     /// Row 8 at E6 and E4; the inner packet is not examined.
@@ -208,16 +242,16 @@ impl<'a> Arriving<'a, '_> {
         session: Session,
         source_port: u16,
         args: ArgsMobSession,
-    ) -> Result<Tunnel<'a>, Refusal> {
+    ) -> Result<Datagram<'a>, Refusal> {
         if !session.session_type.admits(self.chain.protocol) {
             return Err(self.chain.upper_layer_error());
         }
-        Ok(Tunnel {
+        Ok(Datagram::Tunnel(Tunnel {
             source_port,
             direction: session.direction,
             args,
             inner: self.chain.upper,
-        })
+        }))
     }
 }
 
@@ -251,13 +285,31 @@ fn policy_segments(policy: &Policy, args: ArgsMobSession) -> Vec<u128> {
 }
 
 /// H.M.GTP4.D (RFC 9433, 6.7).
-fn d4<'a>(packet: &Ipv4Packet<'a>, rule: &Rule) -> Result<SrPacket<'a>, Refusal> {
-    let user = decapsulate(
+fn d4<'a>(packet: &Ipv4Packet<'a>, rule: &Rule) -> Result<Outgoing<'a>, Refusal> {
+    let arrived = decapsulate(
         packet.protocol,
         packet.payload,
         rule.session,
         Refusal::NotGtpu,
     )?;
+    Ok(match arrived {
+        Decapsulated::User(user) => Outgoing::Sr(d4_sr_packet(packet, rule, user)),
+        Decapsulated::Echo(response) => Outgoing::Gtp4(d4_reply(packet, rule, response)),
+    })
+}
+
+/// Addresses exchanged, the rule's TTL.
+fn d4_reply<'a>(packet: &Ipv4Packet<'a>, rule: &Rule, response: EchoResponse) -> Gtp4Packet<'a> {
+    Gtp4Packet {
+        tos: packet.tos,
+        ttl: rule.hop_limit,
+        source: packet.destination,
+        destination: packet.source,
+        datagram: Datagram::EchoResponse(response),
+    }
+}
+
+fn d4_sr_packet<'a>(packet: &Ipv4Packet<'a>, rule: &Rule, user: UserPacket<'a>) -> SrPacket<'a> {
     let Ipv4Places { p, q } = rule.places;
     let sid = user
         .args
@@ -271,7 +323,7 @@ fn d4<'a>(packet: &Ipv4Packet<'a>, rule: &Rule) -> Result<SrPacket<'a>, Refusal>
             (first, segments)
         }
     };
-    Ok(SrPacket {
+    SrPacket {
         traffic_class: packet.tos,
         hop_limit: rule.hop_limit,
         source,
@@ -279,7 +331,7 @@ fn d4<'a>(packet: &Ipv4Packet<'a>, rule: &Rule) -> Result<SrPacket<'a>, Refusal>
         segments,
         next_header: user.next_header,
         inner: user.inner,
-    })
+    }
 }
 
 /// An address with an IPv4 address behind a prefix of `octets` octets, 0 to 12.

@@ -7,28 +7,40 @@ use crate::wire::Reader;
 pub const GTPU_PORT: u16 = 2152;
 pub const HEADER_LENGTH: usize = 8;
 
-/// The payload of a UDP datagram to the GTP-U port. Anything else is `stray`
-/// (row 8); the port is read only if 8 octets are there, fewer are row 9.
-pub fn gtpu_payload(protocol: u8, octets: &[u8], stray: Refusal) -> Result<&[u8], Refusal> {
+/// A datagram to the GTP-U port.
+#[derive(Clone, Copy, Debug)]
+pub struct GtpuDatagram<'a> {
+    pub source_port: u16,
+    pub payload: &'a [u8],
+}
+
+/// A UDP datagram to the GTP-U port. Anything else is `stray` (row 8); the port
+/// is read only if 8 octets are there, fewer are row 9.
+pub fn to_gtpu(protocol: u8, octets: &[u8], stray: Refusal) -> Result<GtpuDatagram<'_>, Refusal> {
     if protocol != next_header::UDP {
         return Err(stray);
     }
-    let (port, length, payload) = read(octets).ok_or(Refusal::Udp)?;
+    let (port, length, datagram) = read(octets).ok_or(Refusal::Udp)?;
     if port != GTPU_PORT {
         return Err(stray);
     }
     if usize::from(length) != octets.len() {
         return Err(Refusal::Udp);
     }
-    Ok(payload)
+    Ok(datagram)
 }
 
-/// Destination port, length, payload.
-fn read(octets: &[u8]) -> Option<(u16, u16, &[u8])> {
+/// Destination port, length, the rest.
+fn read(octets: &[u8]) -> Option<(u16, u16, GtpuDatagram<'_>)> {
     let mut reader = Reader::new(octets);
-    let _source_port = reader.u16()?;
+    let source_port = reader.u16()?;
     let port = reader.u16()?;
     let length = reader.u16()?;
     let _checksum = reader.u16()?;
-    Some((port, length, reader.rest()))
+    let payload = reader.rest();
+    let datagram = GtpuDatagram {
+        source_port,
+        payload,
+    };
+    Some((port, length, datagram))
 }

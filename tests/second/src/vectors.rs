@@ -2,6 +2,7 @@
 //! `kind call number icmp_type icmp_code icmp_pointer length room packet-hex table-hex out-hex`.
 
 use crate::answer::Answer;
+use crate::coverage::NUMBERS;
 use crate::generate::{self, Call, Case, Kind};
 
 /// The smallest packet that can answer 15 at a kind: with 8 SIDs, 7 waypoints,
@@ -118,13 +119,13 @@ pub fn parse(line: &str) -> Result<Case, String> {
 /// How many cases of each number are still wanted at one kind.
 struct Quota {
     kind: Kind,
-    wanted: [u64; 17],
+    wanted: [u64; NUMBERS],
 }
 
 impl Quota {
     /// About a third sent, the rest spread evenly over the other numbers.
     fn new(kind: Kind, per_kind: u64, max_packet: usize) -> Self {
-        let mut wanted = [0; 17];
+        let mut wanted = [0; NUMBERS];
         let possible =
             |number: u8| number != 0 && (number != 15 || !leaves_out_15(kind, max_packet));
         let refusals: Vec<u8> = kind

@@ -392,10 +392,10 @@ pub fn lines() -> Vec<Line> {
         "the GTP-U octets, downlink: the first Args, inner 60 00",
         equal(
             pdu,
-            Ok(gtpu::GPdu {
+            Ok(gtpu::Message::GPdu(gtpu::GPdu {
                 args: ARGS,
                 inner: &[0x60, 0],
-            }),
+            })),
         ),
     );
 

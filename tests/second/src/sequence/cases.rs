@@ -4,12 +4,9 @@
 use super::read;
 use crate::generate::packets::{self, GtpuDraft};
 use crate::generate::{self, damage, tables, Call, Kind};
-use crate::gtpu::flag;
+use crate::gtpu::{flag, ECHO_REQUEST};
 use crate::rng::Rng;
 use crate::vectors::{hex, unhex};
-
-/// TS 29.281, 6.1.
-pub const ECHO_REQUEST: u8 = 1;
 
 /// A packet and what its reader gives.
 #[derive(Clone, Debug, PartialEq, Eq)]

@@ -1,10 +1,10 @@
 //! What the packets of readings met: of well-formed G-PDUs the flags, of others the row, over
 //! IPv6 without and with an SRH and over IPv4.
 
-use super::cases::{self, Reading, ECHO_REQUEST};
+use super::cases::{self, Reading};
 use super::header;
 use crate::generate::Call;
-use crate::gtpu::flag;
+use crate::gtpu::{flag, ECHO_REQUEST};
 use crate::ipv6::next_header;
 use crate::tally::{Shape, Tally};
 
