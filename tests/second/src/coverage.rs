@@ -1,6 +1,9 @@
-//! Which answer numbers came out at which kind.
+//! Which answer numbers came out at which kind, and what Echo Requests met.
+
+pub mod echo;
 
 use crate::generate::{self, Kind};
+use crate::tally::Tally;
 use std::fmt;
 use std::ops::AddAssign;
 
@@ -110,15 +113,17 @@ impl fmt::Display for Finding {
 }
 
 /// Generates and checks the first `cases` cases of a seed.
-pub fn collect(seed: u64, cases: u64) -> Result<Coverage, String> {
+pub fn collect(seed: u64, cases: u64) -> Result<(Coverage, Tally), String> {
     let mut coverage = Coverage::default();
+    let mut echo = Tally::new(&echo::SHAPE);
     for index in 0..cases {
         let case = generate::case(seed, index);
         case.check()
             .map_err(|why| format!("seed {seed} index {index}: {why}"))?;
         coverage.add(case.kind, case.answer.number);
+        echo::add(&mut echo, &case, case.answer);
     }
-    Ok(coverage)
+    Ok((coverage, echo))
 }
 
 #[cfg(test)]
@@ -142,5 +147,12 @@ mod tests {
             9 + 16 + 16 + 8 + 9 + 15
         );
         assert!(Coverage::default().judge().is_err());
+    }
+
+    #[test]
+    fn no_gap() {
+        let (coverage, echo) = collect(7, 20_000).unwrap();
+        assert_eq!(coverage.judge(), Ok(()), "{coverage}");
+        assert_eq!(echo.judge(), Ok(()), "{echo}");
     }
 }

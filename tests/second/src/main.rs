@@ -14,7 +14,8 @@ second - the gateway rules a second time, written from the papers and not from t
 
 usage:
   second coverage --seed N --cases M
-      generate M cases, print how often each answer number came out at each kind
+      generate M cases, print what Echo Requests met at each kind, and how often each
+      answer number came out there
   second vectors --seed N --per-kind K [--max-packet L]
       print K cases for each kind, packets of at most L octets (400 if not given),
       a line each: kind call number icmp_type icmp_code icmp_pointer length room
@@ -73,9 +74,10 @@ fn run(words: &[String], out: &mut dyn Write) -> Result<(), Failure> {
         "coverage" => {
             let options = Options::parse(rest, &["--seed", "--cases"])?;
             let (seed, cases) = (options.get("--seed")?, options.get("--cases")?);
-            let coverage = coverage::collect(seed, cases).map_err(Failure::Check)?;
-            writeln!(out, "{coverage}")?;
+            let (coverage, echo) = coverage::collect(seed, cases).map_err(Failure::Check)?;
+            writeln!(out, "{echo}\n{coverage}")?;
             coverage.judge().map_err(Failure::Check)?;
+            echo.judge().map_err(Failure::Check)?;
             writeln!(out, "seed {seed}: {cases} cases, no gap")?;
         }
         "vectors" => {

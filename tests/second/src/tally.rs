@@ -1,6 +1,7 @@
 //! What drawn cases met: a table of counts, and edges one by one.
 
 use std::fmt;
+use std::ops::AddAssign;
 
 /// The table: what stands at its left and above it, and what can be met.
 pub struct Shape {
@@ -74,6 +75,22 @@ impl Tally {
     }
 }
 
+/// Of the same shape.
+impl AddAssign<&Tally> for Tally {
+    fn add_assign(&mut self, other: &Tally) {
+        let others = other.table.iter().flatten();
+        for (count, more) in self.table.iter_mut().flatten().zip(others) {
+            *count += more;
+        }
+        if self.edges.is_empty() {
+            self.edges = other.edges.iter().map(|&(name, _)| (name, 0)).collect();
+        }
+        for ((_, count), (_, more)) in self.edges.iter_mut().zip(&other.edges) {
+            *count += more;
+        }
+    }
+}
+
 impl fmt::Display for Tally {
     fn fmt(&self, f: &mut fmt::Formatter<'_>) -> fmt::Result {
         let Shape {
@@ -134,5 +151,10 @@ mod tests {
         assert_eq!(tally.cases(), 3);
         assert!(tally.to_string().ends_with("        1 asleep"));
         assert!(tally.to_string().contains("     bird         1        1!"));
+        let mut sum = Tally::new(&SHAPE);
+        sum += &tally;
+        sum += &tally;
+        assert_eq!(sum.cases(), 6);
+        assert!(sum.to_string().ends_with("        2 asleep"));
     }
 }

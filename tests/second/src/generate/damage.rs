@@ -299,7 +299,7 @@ fn gtpu_part(rng: &mut Rng, draft: &mut Draft) -> Option<&'static str> {
     })
 }
 
-fn other_extension(rng: &mut Rng) -> Extension {
+pub fn other_extension(rng: &mut Rng) -> Extension {
     let kind = rng.pick(&[0x01, 0x03, 0x20, 0x40, 0x81, 0x84, 0x86, 0x05, 0xc0, 0xff]);
     let length = rng.pick(&[2, 2, 6]);
     Extension {
@@ -388,49 +388,59 @@ fn srh_field(rng: &mut Rng, packet: &mut Assembled) -> Option<&'static str> {
 }
 
 fn upper_field(rng: &mut Rng, packet: &mut Assembled) -> Option<&'static str> {
+    packet.layout.gtpu?;
+    match rng.below(7) {
+        0 | 1 => udp_length(rng, packet),
+        2 | 3 => gtpu_length(rng, packet),
+        6 => short_message(rng, packet),
+        _ => unit_count(rng, packet),
+    }
+}
+
+pub fn udp_length(rng: &mut Rng, packet: &mut Assembled) -> Option<&'static str> {
+    let at = packet.layout.upper + 4;
+    let value = if rng.chance(20) {
+        rng.below(10)
+    } else {
+        near(rng, packet.get16(at))
+    };
+    packet.set16(at, value);
+    Some("UDP length")
+}
+
+pub fn gtpu_length(rng: &mut Rng, packet: &mut Assembled) -> Option<&'static str> {
+    let at = packet.layout.gtpu? + 2;
+    let value = near(rng, packet.get16(at));
+    packet.set16(at, value);
+    Some("GTP-U length")
+}
+
+fn unit_count(rng: &mut Rng, packet: &mut Assembled) -> Option<&'static str> {
+    let at = packet.layout.extensions?;
+    let left = packet.octets.len().checked_sub(at)? / 4;
+    let units = packet.octets.get_mut(at)?;
+    *units = match rng.below(7) {
+        0 | 1 => 0,
+        2 => units.wrapping_add(1),
+        3 => left as u8,
+        4 => (left + 1) as u8,
+        5 => 255,
+        _ => 1,
+    };
+    Some("unit count")
+}
+
+pub fn short_message(rng: &mut Rng, packet: &mut Assembled) -> Option<&'static str> {
     let gtpu = packet.layout.gtpu?;
-    let (udp_length, gtpu_length) = (packet.layout.upper + 4, gtpu + 2);
-    Some(match rng.below(7) {
-        6 => {
-            let length = gtpu + 8 + rng.below(5);
-            if packet.octets.len() < length {
-                return None;
-            }
-            let optional = rng.pick(&[0, 1, 1, 1, 2, 2, 2, 3, 4, 7]);
-            packet.octets[gtpu] = flag::VERSION_1 | flag::PT | optional;
-            packet.octets.truncate(length);
-            packet.repair(Repair::All);
-            "any of E, S, PN and 8 to 12 octets of GTP-U"
-        }
-        0 | 1 => {
-            let value = if rng.chance(20) {
-                rng.below(10)
-            } else {
-                near(rng, packet.get16(udp_length))
-            };
-            packet.set16(udp_length, value);
-            "UDP length"
-        }
-        2 | 3 => {
-            let value = near(rng, packet.get16(gtpu_length));
-            packet.set16(gtpu_length, value);
-            "GTP-U length"
-        }
-        _ => {
-            let at = packet.layout.extensions?;
-            let left = packet.octets.len().checked_sub(at)? / 4;
-            let units = packet.octets.get_mut(at)?;
-            *units = match rng.below(7) {
-                0 | 1 => 0,
-                2 => units.wrapping_add(1),
-                3 => left as u8,
-                4 => (left + 1) as u8,
-                5 => 255,
-                _ => 1,
-            };
-            "unit count"
-        }
-    })
+    let length = gtpu + 8 + rng.below(5);
+    if packet.octets.len() < length {
+        return None;
+    }
+    let optional = rng.pick(&[0, 1, 1, 1, 2, 2, 2, 3, 4, 7]);
+    packet.octets[gtpu] = flag::VERSION_1 | flag::PT | optional;
+    packet.octets.truncate(length);
+    packet.repair(Repair::All);
+    Some("any of E, S, PN and 8 to 12 octets of GTP-U")
 }
 
 fn repair_of(rng: &mut Rng) -> Repair {

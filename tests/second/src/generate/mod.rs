@@ -1,9 +1,10 @@
-//! Cases from a seed: a sound table and a packet for it, then damage to one
-//! field or a few, then a room around the result's length.
+//! Cases from a seed: a sound table and a packet for it, or an Echo Request, then
+//! damage to one field or a few, then a room around the result's length.
 //!
 //! [`case`] makes one case from a seed and an index and nothing else.
 
 pub mod damage;
+pub mod echo;
 pub mod packets;
 pub mod tables;
 
@@ -244,12 +245,19 @@ fn scene(seed: u64, index: u64) -> (Rng, tables::Scene) {
 fn case_of(rng: &mut Rng, scene: &tables::Scene, percent_filled: usize) -> Case {
     let kind = scene.kind;
     let mut notes = Vec::new();
+    // Chance of its own: what is not an Echo Request does not depend on it.
+    let of_echo = &mut Rng::new(!rng.clone().u64());
     let mut draft = packets::draft(rng, scene);
+    let echo = echo::instead(of_echo, kind, &mut draft);
+    notes.extend(echo);
     let mut table = scene.table.clone();
 
     // How many fields are damaged: mostly none or one, sometimes more, because
     // the smallest number has to win.
     let damages = rng.pick(&[0, 0, 0, 0, 0, 0, 1, 1, 1, 1, 1, 1, 1, 1, 1, 2, 2, 2, 3, 3]);
+    // Half of the Echo Requests have no faults but those drawn with them.
+    let spared = echo.is_some() && of_echo.chance(50);
+    let damages = if spared { 0 } else { damages };
     let mut on_table = 0;
     let mut on_octets = 0;
     for _ in 0..damages {
@@ -261,6 +269,9 @@ fn case_of(rng: &mut Rng, scene: &tables::Scene, percent_filled: usize) -> Case 
         }
     }
     let mut assembled = draft.assemble();
+    if echo.is_some() {
+        notes.extend(echo::damage(of_echo, &mut assembled));
+    }
     for _ in 0..on_octets {
         notes.push(damage::octets(rng, &mut assembled));
     }

@@ -140,6 +140,15 @@ impl Draft {
         ip + upper
     }
 
+    /// As long as the outermost length field allows.
+    pub fn longest_inner(&self) -> usize {
+        let counted_from = match &self.ip {
+            IpDraft::V6(_) => 40,
+            IpDraft::V4(_) => 0,
+        };
+        65_535 + counted_from - self.overhead()
+    }
+
     pub fn assemble(&self) -> Assembled {
         let mut octets = Vec::new();
         let mut layout = Layout::default();
@@ -552,7 +561,7 @@ fn grow(rng: &mut Rng, draft: &mut Draft, limit: usize) {
     if !rng.chance(3) {
         return;
     }
-    let most = 65_535 + if draft.v6().is_some() { 40 } else { 0 } - draft.overhead();
+    let most = draft.longest_inner();
     let length = match rng.below(6) {
         0 => most,
         1 => limit.saturating_sub(1),
