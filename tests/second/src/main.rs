@@ -44,7 +44,7 @@ usage:
   second check
       read lines of any of these forms from standard input and run them here
   second worked
-      run the worked packets of docs/RULES.md and of order 13
+      run the worked packets of docs/RULES.md and of orders 1 and 13
   second program-input --seed N --per-kind K [--max-worked L]
   second program-output --seed N --per-kind K [--max-worked L]
       what the library's program `worked` reads, and what it should print: the

@@ -1,5 +1,5 @@
 //! The worked packets (docs/RULES.md, Worked packets): each that can be said as a function's result;
-//! and those of order 13, for the readers.
+//! those of order 1, Echo; and those of order 13, for the readers.
 
 use crate::answer::Answer;
 use crate::args::ArgsMobSession;
@@ -141,15 +141,52 @@ fn over_ipv6(inner: usize) -> Vec<u8> {
 }
 
 /// 198.51.100.7 to 192.0.2.1.
-fn over_ipv4(inner: usize) -> Vec<u8> {
-    let payload = tunnelled(inner);
-    let mut packet = vec![0x45, 0];
+fn ipv4(tos: u8, ttl: u8, payload: &[u8]) -> Vec<u8> {
+    let mut packet = vec![0x45, tos];
     packet.extend(((20 + payload.len()) as u16).to_be_bytes());
-    packet.extend([0, 0, 0x40, 0, 64, 17, 0, 0, 198, 51, 100, 7, 192, 0, 2, 1]);
+    packet.extend([0, 0, 0x40, 0, ttl, 17, 0, 0, 198, 51, 100, 7, 192, 0, 2, 1]);
     let checksum = crate::ipv4::checksum(&packet);
     packet[10..12].copy_from_slice(&checksum.to_be_bytes());
     packet.extend(payload);
     packet
+}
+
+fn over_ipv4(inner: usize) -> Vec<u8> {
+    ipv4(0, 64, &tunnelled(inner))
+}
+
+/// TEID 0, sequence number 1234.
+const ECHO: [u8; 12] = [0x32, 1, 0, 4, 0, 0, 0, 0, 0x12, 0x34, 0, 0];
+
+/// UDP and GTP-U of the reply, to port 12345.
+const ECHO_REPLY: [u8; 22] = [
+    0x08, 0x68, 0x30, 0x39, 0x00, 0x16, 0x00, 0x00, 0x32, 0x02, 0x00, 0x06, 0x00, 0x00, 0x00, 0x00,
+    0x12, 0x34, 0x00, 0x00, 0x0e, 0x00,
+];
+
+/// From port 12345.
+fn to_gtpu(message: &[u8]) -> Vec<u8> {
+    let length = 8 + message.len() as u8;
+    [&[0x30, 0x39, 0x08, 0x68, 0, length, 0, 0], message].concat()
+}
+
+/// Traffic class B8, flow label 12345, hop limit 9.
+fn echo_over_ipv6(message: &[u8]) -> Vec<u8> {
+    let mut packet = ipv6(17, 9, NEAR, &to_gtpu(message));
+    packet[..4].copy_from_slice(&[0x6b, 0x81, 0x23, 0x45]);
+    packet
+}
+
+/// TOS B8, TTL 9.
+fn echo_over_ipv4(message: &[u8]) -> Vec<u8> {
+    ipv4(0xb8, 9, &to_gtpu(message))
+}
+
+/// Behind an SRH of two segments with SL 0.
+fn echo_behind_srh() -> Vec<u8> {
+    let srh = [17, 4, 4, 0, 1, 0, 0, 0];
+    let datagram = to_gtpu(&ECHO);
+    ipv6(43, 9, NEAR, &[&srh[..], &[0x22; 32], &datagram].concat())
 }
 
 /// SRH with two segments around two inner octets.
@@ -347,7 +384,137 @@ pub fn calls() -> Vec<WorkedCall> {
         room: ROOM,
         answer: Answer::sent(42),
     });
+    calls.extend(echo_calls());
     calls
+}
+
+/// Those of order 1.
+fn echo_calls() -> Vec<WorkedCall> {
+    let (with_d, with_di) = (table_of(d, 1), table_of(di, 3));
+    let with_teid = [&ECHO[..7], &[1], &ECHO[8..]].concat();
+    let without_s = [0x30, 1, 0, 0, 0, 0, 0, 0];
+    let with_e = [&[0x36][..], &ECHO[1..3], &[6], &ECHO[4..11], &[0x85, 0, 0]].concat();
+    let cut = [&ECHO[..3], &[3], &ECHO[4..11]].concat();
+    let response = [&[0x32, 2], &ECHO[2..]].concat();
+    let no_room = refused(16, 0, 0, 0);
+    let bad_echo = refused(17, 0, 0, 0);
+    let over_ipv6 = [
+        (
+            "Echo Request at D: a reply of 62",
+            echo_over_ipv6(&ECHO),
+            &with_d,
+            ROOM,
+            Answer::sent(62),
+        ),
+        (
+            "Echo Request at Di: a reply of 62",
+            echo_over_ipv6(&ECHO),
+            &with_di,
+            62,
+            Answer::sent(62),
+        ),
+        (
+            "Echo Request behind an SRH, SL 0: a reply of 62",
+            echo_behind_srh(),
+            &with_di,
+            ROOM,
+            Answer::sent(62),
+        ),
+        (
+            "Echo Request with E, an extension of 0 units: a reply of 62",
+            echo_over_ipv6(&with_e),
+            &with_d,
+            ROOM,
+            Answer::sent(62),
+        ),
+        (
+            "Echo Request, room 61: 16",
+            echo_over_ipv6(&ECHO),
+            &with_d,
+            61,
+            no_room,
+        ),
+        (
+            "Echo Request without S: 17",
+            echo_over_ipv6(&without_s),
+            &with_d,
+            ROOM,
+            bad_echo,
+        ),
+        (
+            "Echo Request with TEID 1: 17",
+            echo_over_ipv6(&with_teid),
+            &with_di,
+            ROOM,
+            bad_echo,
+        ),
+        (
+            "Echo Request with TEID 1, no room: 17",
+            echo_over_ipv6(&with_teid),
+            &with_d,
+            0,
+            bad_echo,
+        ),
+        (
+            "Echo Request with S, eleven octets: 10",
+            echo_over_ipv6(&cut),
+            &with_d,
+            ROOM,
+            refused(10, 0, 0, 0),
+        ),
+        (
+            "Echo Response at D: 11",
+            echo_over_ipv6(&response),
+            &with_d,
+            ROOM,
+            refused(11, 0, 0, 0),
+        ),
+    ];
+    let with_rule = rule_table();
+    let over_ipv4 = [
+        (
+            "Echo Request at D4: a reply of 42",
+            echo_over_ipv4(&ECHO),
+            &with_rule,
+            42,
+            Answer::sent(42),
+        ),
+        (
+            "Echo Request at D4, room 41: 16",
+            echo_over_ipv4(&ECHO),
+            &with_rule,
+            41,
+            no_room,
+        ),
+        (
+            "Echo Request at D4 without S: 17",
+            echo_over_ipv4(&without_s),
+            &with_rule,
+            ROOM,
+            bad_echo,
+        ),
+        (
+            "Echo Request at D4 with TEID 1: 17",
+            echo_over_ipv4(&with_teid),
+            &with_rule,
+            ROOM,
+            bad_echo,
+        ),
+    ];
+    let of = |call| {
+        move |(words, packet, table, room, answer): (_, _, &Vec<u8>, _, _)| WorkedCall {
+            words,
+            call,
+            packet,
+            table: table.clone(),
+            room,
+            answer,
+        }
+    };
+    let over_ipv6 = over_ipv6.into_iter().map(of(Call::Ipv6));
+    over_ipv6
+        .chain(over_ipv4.into_iter().map(of(Call::Ipv4)))
+        .collect()
 }
 
 /// All worked packets.
@@ -441,6 +608,22 @@ pub fn lines() -> Vec<Line> {
     line(
         "waypoint, SL 1, hop limit 2 leaves as 1",
         equal(sent.get(7), Some(&1)),
+    );
+
+    let (_, sent) = call6(&echo_over_ipv6(&ECHO), &table_of(d, 1));
+    let front = [0x6b, 0x80, 0, 0, 0, 22, 17, 64];
+    let addresses = [NEAR.to_be_bytes(), [0x11; 16]].concat();
+    line(
+        "the reply over IPv6: addresses exchanged, class B8, hop limit 64, to port 12345",
+        equal(sent, [&front, &addresses[..], &ECHO_REPLY].concat()),
+    );
+    let (_, sent) = call(Call::Ipv4, &echo_over_ipv4(&ECHO), &rule_table(), 1000);
+    let header = [
+        0x45, 0xb8, 0, 42, 0, 0, 0x40, 0, 64, 17, 0x4d, 0xcf, 192, 0, 2, 1, 198, 51, 100, 7,
+    ];
+    line(
+        "the reply over IPv4: addresses exchanged, TOS B8, TTL 64, to port 12345",
+        equal(sent, [&header[..], &ECHO_REPLY].concat()),
     );
 
     for worked in readings() {

@@ -511,9 +511,239 @@ fn number_10() {
 
 #[test]
 fn number_11() {
-    let mut packet = gtpu(&INNER);
-    packet[1] = 254;
-    assert_eq!(everywhere(&udp(&packet)), [11; 3]);
+    for message_type in [254, 0, 2, 26, 31] {
+        let mut packet = gtpu(&INNER);
+        packet[1] = message_type;
+        assert_eq!(everywhere(&udp(&packet)), [11; 3]);
+    }
+    // An Echo Response, whatever its flags and TEID.
+    for (octet, value) in [(0, 0x32), (0, 0x31), (7, 1)] {
+        let mut message = echo(octet, value);
+        message[1] = 2;
+        assert_eq!(everywhere(&udp(&message)), [11; 3]);
+    }
+}
+
+/// TEID 0, number 1234.
+const ECHO: [u8; 12] = [0x32, 1, 0, 4, 0, 0, 0, 0, 0x12, 0x34, 0, 0];
+
+/// What is sent back to port 3039 in answer to it.
+const ECHO_REPLY: [u8; 22] = [
+    0x08, 0x68, 0x30, 0x39, 0, 22, 0, 0, 0x32, 2, 0, 6, 0, 0, 0, 0, 0x12, 0x34, 0, 0, 0x0e, 0,
+];
+
+/// The request with one octet changed.
+fn echo(octet: usize, value: u8) -> Vec<u8> {
+    let mut message = ECHO.to_vec();
+    message[octet] = value;
+    message
+}
+
+/// The request with octets behind it, its length right.
+fn echo_with(flags: u8, next_type: u8, behind: &[u8]) -> Vec<u8> {
+    let mut message = octets(&[&ECHO, behind]);
+    let length = (message.len() - 8) as u16;
+    message[0] = flags;
+    message[2..4].copy_from_slice(&length.to_be_bytes());
+    message[11] = next_type;
+    message
+}
+
+fn reply6(asked: u128) -> Vec<u8> {
+    octets(&[
+        &[0x6a, 0xb0, 0, 0, 0, 22, 17, 33],
+        &asked.to_be_bytes(),
+        &SOURCE.to_be_bytes(),
+        &ECHO_REPLY,
+    ])
+}
+
+fn reply4() -> Vec<u8> {
+    octets(&[
+        &[
+            0x45, 0xab, 0, 42, 0, 0, 0x40, 0, 44, 17, 0x61, 0xdc, 192, 0, 2, 1, 198, 51, 100, 7,
+        ],
+        &ECHO_REPLY,
+    ])
+}
+
+/// Runs the same message at D, Di, behind an SRH at both, and at D4; each has to be answered.
+fn assert_echo(message: &[u8]) {
+    let datagram = udp(message);
+    for asked in [D, DI] {
+        let routed = srh(17, 0, 9, &[NOWHERE, E6], &datagram);
+        for packet in [ipv6(17, asked, &datagram), ipv6(43, asked, &routed)] {
+            assert_eq!(
+                run(Call::Ipv6, &packet, &table(), 62),
+                (Answer::sent(62), reply6(asked))
+            );
+        }
+    }
+    assert_eq!(
+        run(
+            Call::Ipv4,
+            &ipv4(17, [192, 0, 2, 1], &datagram),
+            &table(),
+            42
+        ),
+        (Answer::sent(42), reply4())
+    );
+}
+
+#[test]
+fn number_0_echo() {
+    assert_echo(&ECHO);
+    for message in [
+        // PN, the spare bit; N-PDU number and next type without their flags.
+        echo(0, 0x33),
+        echo(0, 0x3a),
+        echo(10, 0xff),
+        echo(11, 0x85),
+        // E: no extension, one that is not there, one of 0 units, of another type, a container.
+        echo(0, 0x36),
+        echo_with(0x36, 0x85, &[]),
+        echo_with(0x36, 0x85, &[0, 0, 0, 0]),
+        echo_with(0x37, 0x40, &[1, 0, 0, 0]),
+        echo_with(0x36, 0x85, &[1, 0x10, 9, 0x85, 255]),
+        // Elements: Recovery, a Private Extension.
+        echo_with(0x32, 0, &[0x0e, 7]),
+        echo_with(0x32, 0, &[255, 0, 3, 0, 1, 9]),
+        echo_with(0x32, 0, &[0x45; 300]),
+    ] {
+        assert_echo(&message);
+    }
+}
+
+#[test]
+fn echo_to_any_port_with_any_number() {
+    for port in [0u16, 2152, 0x3039, 65_535] {
+        for number in [0u16, 0x00ff, 0xff00, 65_535] {
+            let mut message = ECHO;
+            message[8..10].copy_from_slice(&number.to_be_bytes());
+            let mut datagram = udp(&message);
+            datagram[..2].copy_from_slice(&port.to_be_bytes());
+            let (answer, sent) = run(Call::Ipv6, &ipv6(17, D, &datagram), &table(), 100);
+            let mut wanted = reply6(D);
+            wanted[42..44].copy_from_slice(&port.to_be_bytes());
+            wanted[56..58].copy_from_slice(&number.to_be_bytes());
+            assert_eq!((answer, sent), (Answer::sent(62), wanted));
+            let packet = ipv4(17, [192, 0, 2, 1], &datagram);
+            let (answer, sent) = run(Call::Ipv4, &packet, &table(), 100);
+            let mut wanted = reply4();
+            wanted[22..24].copy_from_slice(&port.to_be_bytes());
+            wanted[36..38].copy_from_slice(&number.to_be_bytes());
+            assert_eq!((answer, sent), (Answer::sent(42), wanted));
+        }
+    }
+}
+
+#[test]
+fn number_17() {
+    let without_s = [0x30, 1, 0, 0, 0, 0, 0, 0];
+    let mut requests = vec![without_s.to_vec(), echo(0, 0x31), echo(0, 0x34)];
+    requests.extend([4, 5, 6, 7].map(|octet| echo(octet, 1)));
+    requests.extend([4, 5, 6, 7].map(|octet| echo(octet, 0x80)));
+    // Both; and with what row 12 would refuse.
+    requests.push([&[0x30, 1, 0, 0, 0, 0, 0, 9], &[][..]].concat());
+    requests.push(echo_with(0x34, 0x40, &[0; 4]));
+    for message in requests {
+        let datagram = udp(&message);
+        assert_eq!(everywhere(&datagram), [17; 3]);
+        // Before 16, and with no ICMP and no length.
+        for asked in [D, DI] {
+            let packet = ipv6(17, asked, &datagram);
+            assert_eq!(run(Call::Ipv6, &packet, &table(), 0).0.pack(), 17);
+        }
+        let packet = ipv4(17, [192, 0, 2, 1], &datagram);
+        assert_eq!(run(Call::Ipv4, &packet, &table(), 0).0.pack(), 17);
+    }
+}
+
+#[test]
+fn echo_is_never_15() {
+    let request = |flags, length| udp(&echo_with(flags, 0, &vec![0x60; length - 12]));
+    // The shortest messages that are 15 as G-PDUs.
+    for (asked, length) in [(D, 16 + 65_496), (DI, 16 + 65_480)] {
+        let user = udp(&gtpu(&vec![0x60; length - 16]));
+        assert_eq!(number6(&ipv6(17, asked, &user), &table()), 15);
+        let packet = ipv6(17, asked, &request(0x32, length));
+        let replied = (Answer::sent(62), reply6(asked));
+        assert_eq!(run(Call::Ipv6, &packet, &table(), 62), replied);
+        let packet = ipv6(17, asked, &request(0x31, length));
+        assert_eq!(number6(&packet, &table()), 17);
+    }
+    let length = 16 + 65_480;
+    let to_rule = |datagram: &[u8]| ipv4(17, [192, 0, 2, 1], datagram);
+    let user = udp(&gtpu(&vec![0x60; length - 16]));
+    assert_eq!(number4(&to_rule(&user), &table()), 15);
+    let packet = to_rule(&request(0x32, length));
+    let replied = (Answer::sent(42), reply4());
+    assert_eq!(run(Call::Ipv4, &packet, &table(), 42), replied);
+    assert_eq!(number4(&to_rule(&request(0x31, length)), &table()), 17);
+}
+
+#[test]
+fn echo_before_17() {
+    // 8 and 9, also of one that would be 17.
+    for message in [&ECHO[..], &[0x30, 1, 0, 0, 0, 0, 0, 0]] {
+        let mut datagram = udp(message);
+        datagram[3] = 0x69;
+        assert_eq!(everywhere(&datagram), [8; 3]);
+        let mut datagram = udp(message);
+        datagram[5] += 1;
+        assert_eq!(everywhere(&datagram), [9; 3]);
+    }
+    // 10: four octets more that are not there, version, PT, length.
+    for flags in [0x31, 0x32, 0x34, 0x37] {
+        for length in 8..12 {
+            let mut short = echo(0, flags);
+            short.truncate(length);
+            short[3] = length as u8 - 8;
+            assert_eq!(everywhere(&udp(&short)), [10; 3]);
+        }
+    }
+    for message in [echo(0, 0x52), echo(0, 0x22), echo(3, 3), echo(3, 5)] {
+        assert_eq!(everywhere(&udp(&message)), [10; 3]);
+    }
+    // 7, with the pointer of an SRH.
+    assert_icmp(
+        &ipv6(43, D, &srh(17, 1, 0, &[D], &udp(&ECHO))),
+        (7, 4, 0, 43),
+    );
+}
+
+#[test]
+fn echo_and_16() {
+    for (room, number) in [(0, 16), (61, 16), (62, 0), (63, 0)] {
+        for asked in [D, DI] {
+            let packet = ipv6(17, asked, &udp(&ECHO));
+            assert_eq!(run(Call::Ipv6, &packet, &table(), room).0.number, number);
+        }
+    }
+    for (room, number) in [(0, 16), (41, 16), (42, 0), (43, 0)] {
+        let packet = ipv4(17, [192, 0, 2, 1], &udp(&ECHO));
+        assert_eq!(run(Call::Ipv4, &packet, &table(), room).0.number, number);
+    }
+}
+
+#[test]
+fn echo_at_the_other_kinds() {
+    for message in [ECHO, [0x32, 1, 0, 4, 0, 0, 0, 1, 0x12, 0x34, 0, 0]] {
+        let datagram = udp(&message);
+        assert_icmp(&ipv6(17, WAYPOINT, &datagram), (8, 4, 4, 40));
+        assert_icmp(&ipv6(17, E4, &datagram), (8, 4, 4, 40));
+        assert_eq!(number6(&ipv6(17, E6, &datagram), &table()), 5);
+        let routed = |segments_left| srh(17, segments_left, 0, &[NOWHERE], &datagram);
+        assert_icmp(&ipv6(43, WAYPOINT, &routed(0)), (8, 4, 4, 64));
+        assert_icmp(&ipv6(43, E4, &routed(0)), (8, 4, 4, 64));
+        assert_icmp(&ipv6(43, E6, &routed(1)), (8, 4, 4, 64));
+        let mut packet = ipv6(43, WAYPOINT, &routed(1));
+        let (answer, sent) = run(Call::Ipv6, &packet, &table(), 200);
+        packet[7] = 8;
+        packet[43] = 0;
+        packet[24..40].copy_from_slice(&NOWHERE.to_be_bytes());
+        assert_eq!((answer, sent), (Answer::sent(packet.len()), packet));
+    }
 }
 
 #[test]
