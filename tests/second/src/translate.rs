@@ -220,13 +220,8 @@ impl<'a> Arriving<'a, '_> {
 
     /// Addresses exchanged; an SRH that arrived is not sent.
     fn reply(&self, response: EchoResponse) -> Outgoing<'a> {
-        let Ipv6Packet {
-            traffic_class,
-            source: requester,
-            destination: asked,
-            ..
-        } = self.packet;
-        let hop_limit = self.entry.hop_limit;
+        let (requester, asked) = (self.packet.source, self.packet.destination);
+        let (traffic_class, hop_limit) = (self.packet.traffic_class, self.entry.hop_limit);
         Outgoing::Gtp6(Gtp6Packet {
             traffic_class,
             hop_limit,
@@ -300,11 +295,12 @@ fn d4<'a>(packet: &Ipv4Packet<'a>, rule: &Rule) -> Result<Outgoing<'a>, Refusal>
 
 /// Addresses exchanged, the rule's TTL.
 fn d4_reply<'a>(packet: &Ipv4Packet<'a>, rule: &Rule, response: EchoResponse) -> Gtp4Packet<'a> {
+    let (requester, asked) = (packet.source, packet.destination);
     Gtp4Packet {
         tos: packet.tos,
         ttl: rule.hop_limit,
-        source: packet.destination,
-        destination: packet.source,
+        source: asked,
+        destination: requester,
         datagram: Datagram::EchoResponse(response),
     }
 }
