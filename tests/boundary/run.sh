@@ -32,7 +32,7 @@ KAWSARPA_LIB=$lib cargo build --release --offline --quiet
 boundary=target/release/boundary
 memcheck=(valgrind --quiet --error-exitcode=9)
 
-step cases 19 "$boundary" cases --seed 1 --cases 1000000 --threads 2
+step cases 20 "$boundary" cases --seed 1 --cases 1000000 --threads 2
 step faults 5 "$boundary" faults --seed 1 --cases 200000
 step trips 7 "$boundary" trips --seed 1 --cases 20000
 step threads 1 "$boundary" threads --seed 1 --cases 2000
@@ -41,8 +41,8 @@ step sequence 24 "$boundary" sequence --seed 1 --cases 300000
 step match 19 "$boundary" match --seed 1 --cases 1000000
 step match-trips 27 "$boundary" match-trips --seed 1 --cases 300000
 step stack 10 "$boundary" stack
-# seed 2 has every answer number among its first 8,100 cases, every condition among its first 4,000 tables, and no gap among its first
-# 20,000 offers, 10,000 packets and 10,000 pairs
+# seed 2 has every answer number among its first 8,100 cases and no gap among its first 9,500, every condition among its first 4,000
+# tables, and no gap among its first 20,000 offers, 10,000 packets and 10,000 pairs
 step "cases under valgrind" 1 "${memcheck[@]}" "$boundary" cases --seed 2 --cases 10000 --threads 1
 step "faults under valgrind" 1 "${memcheck[@]}" "$boundary" faults --seed 2 --cases 10000
 step "trips under valgrind" 2 "${memcheck[@]}" "$boundary" trips --seed 2 --cases 200

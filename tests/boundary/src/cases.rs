@@ -7,9 +7,10 @@ use crate::mutate;
 use crate::place::Place;
 use crate::progress::{Progress, INTERVAL};
 use crate::raw;
-use second::coverage::Coverage;
+use second::coverage::{echo, Coverage};
 use second::loss::histories;
 use second::matching::pairs;
+use second::tally::Tally;
 use second::{generate, Answer, Case};
 use std::sync::atomic::{AtomicU64, Ordering};
 use std::sync::mpsc::{self, RecvTimeoutError, Sender};
@@ -39,9 +40,28 @@ pub struct Outcome {
     pub histories: u64,
     pub pairs: u64,
     pub differences: u64,
-    /// Of what the library answered.
-    pub coverage: Coverage,
+    pub met: Met,
     pub seconds: u64,
+}
+
+/// What the library answered: the numbers, and what Echo Requests met.
+pub struct Met {
+    pub coverage: Coverage,
+    pub echo: Tally,
+}
+
+impl Met {
+    fn new() -> Self {
+        Met {
+            coverage: Coverage::default(),
+            echo: Tally::new(&echo::SHAPE),
+        }
+    }
+
+    fn add(&mut self, case: &Case, found: Answer) {
+        self.coverage.add(case.kind, found.number);
+        echo::add(&mut self.echo, case, found);
+    }
 }
 
 /// A difference in words.
@@ -75,16 +95,16 @@ pub fn judge(bench: &mut Bench, place: Place, case: &Case) -> (Answer, Vec<u8>, 
     (found, octets, checked.and(bench.fault()).err())
 }
 
-fn work(work: &Work, next: &AtomicU64, done: &Done, differences: Sender<String>) -> Coverage {
+fn work(work: &Work, next: &AtomicU64, done: &Done, differences: Sender<String>) -> Met {
     let mut bench = Bench::new();
     let mut rows = Rows::new();
     let mut inputs = Inputs::new();
-    let mut coverage = Coverage::default();
+    let mut met = Met::new();
     // The receiver outlives the threads.
     let send = |difference| differences.send(difference).unwrap_or_default();
     let mut one = |place, case: Case| {
         let (found, _, wrong) = judge(&mut bench, place, &case);
-        coverage.add(case.kind, found.number);
+        met.add(&case, found);
         done.cases.fetch_add(1, Ordering::Relaxed);
         if let Some(why) = wrong {
             send(difference(place, &case, found, &why));
@@ -96,7 +116,7 @@ fn work(work: &Work, next: &AtomicU64, done: &Done, differences: Sender<String>)
         for index in first..(first + BLOCK).min(work.end) {
             let late = |deadline| Instant::now() >= deadline;
             if work.deadline.is_some_and(late) {
-                return coverage;
+                return met;
             }
             let place = |mutation| Place::Case {
                 seed,
@@ -125,7 +145,7 @@ fn work(work: &Work, next: &AtomicU64, done: &Done, differences: Sender<String>)
             judged.unwrap_or_else(send);
         }
         if first + BLOCK >= work.end {
-            return coverage;
+            return met;
         }
     }
 }
@@ -136,7 +156,7 @@ impl Work {
         let (sender, receiver) = mpsc::channel();
         let mut progress = Progress::new();
         let mut differences = 0;
-        let mut coverage = Coverage::default();
+        let mut met = Met::new();
         thread::scope(|scope| {
             let threads: Vec<_> = (0..self.threads)
                 .map(|_| {
@@ -166,7 +186,10 @@ impl Work {
             }
             for thread in threads {
                 match thread.join() {
-                    Ok(of_thread) => coverage += &of_thread,
+                    Ok(of_thread) => {
+                        met.coverage += &of_thread.coverage;
+                        met.echo += &of_thread.echo;
+                    }
                     Err(panic) => std::panic::resume_unwind(panic),
                 }
             }
@@ -176,7 +199,7 @@ impl Work {
             histories: done.histories.into_inner(),
             pairs: done.pairs.into_inner(),
             differences,
-            coverage,
+            met,
             seconds: progress.seconds(),
         }
     }

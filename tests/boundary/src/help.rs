@@ -14,8 +14,8 @@ pub const COMMANDS: [(&str, &[&str], &str); 11] = [
         &["--seed", "--cases", "--threads"],
         "  boundary cases --seed N --cases M [--threads T]
       make the calls of the first M cases of a seed, on T threads (as many as there
-      are processors if not given); print how often the library gave each answer
-      number at each kind
+      are processors if not given); print what Echo Requests met at each kind, and
+      how often the library gave each answer number there
 ",
     ),
     (

@@ -119,12 +119,15 @@ fn run_cases(options: &Options, out: &mut dyn Write) -> Result<(), Failure> {
         deadline: None,
     }
     .run();
-    let gaps = match outcome.coverage.findings().len() {
-        0 => "no gap".to_string(),
-        count => format!("{count} places not as they should be"),
+    let met = &outcome.met;
+    let judged = met.coverage.judge().and(met.echo.judge());
+    let gaps = match judged {
+        Ok(()) => "no gap",
+        Err(_) => "places not as they should be",
     };
+    writeln!(out, "{}", met.echo)?;
     report(&format!("seed {seed}, {gaps}"), &outcome, out)?;
-    outcome.coverage.judge().map_err(Failure::Check)
+    judged.map_err(Failure::Check)
 }
 
 fn run_fuzz(options: &Options, out: &mut dyn Write) -> Result<(), Failure> {
@@ -160,7 +163,7 @@ fn report(what: &str, outcome: &cases::Outcome, out: &mut dyn Write) -> Result<(
         seconds,
         ..
     } = outcome;
-    writeln!(out, "{}", outcome.coverage)?;
+    writeln!(out, "{}", outcome.met.coverage)?;
     writeln!(
         out,
         "{what}: {cases} cases, {differences} differences, {seconds} s"
