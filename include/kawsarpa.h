@@ -37,7 +37,7 @@
  * Of this header, and of the library and the tool that were built with it. CHANGELOG.md says what each version brought.
  */
 #define KAWSARPA_VERSION_MAJOR 0
-#define KAWSARPA_VERSION_MINOR 4
+#define KAWSARPA_VERSION_MINOR 5
 #define KAWSARPA_VERSION_PATCH 0
 
 /* The same as a string: "1.2.3" for 1, 2 and 3. */
@@ -54,6 +54,11 @@
  * kawsarpa_waypoint is the IPv6 call under another name: it gives the same answer and the same octets, whatever kind of entry
  * matches. It is not confined to waypoint entries, because the list of answers has no number for "matched, but another kind".
  * kawsarpa_table_fault takes a table alone and tells its fault: 0 exactly when the table is sound.
+ *
+ * At D, Di and D4 an Echo Request (TS 29.281, type 1), by which a base station sees whether the path is alive, is answered and not
+ * translated: with S set and TEID 0 the call answers 0, and the output is the Echo Response (type 2) with the request's sequence number
+ * and the Recovery element 0E 00. Its addresses are those of the request exchanged, its ports 2152 and the request's source port. The
+ * caller sends it like any other packet. kawsarpa_is_echo_response tells it from a packet that is forwarded.
  *
  * A refusal changes no octet of the output. A packet that is sent changes the first octets of the output, as many as the answer's
  * length says, and no other octet. An output of KAWSARPA_OUT_MAX octets, or of KAWSARPA_GROWTH_MAX more than the packet has, always
@@ -95,6 +100,8 @@ uint64_t kawsarpa_table_fault(const uint8_t *table, size_t table_len);
  *     D4        IPv6 40, SRH 8 + 16 x (7 + 1) SIDs   = 176  IPv4 20, UDP 8, GTP-U 12, container 4 = 44   132
  *     E6        IPv6 40, UDP 8, GTP-U 12, container 4 = 64  IPv6 40, SRH 8 + 16                   = 64   0
  *     E4        IPv4 20, UDP 8, GTP-U 12, container 4 = 44  IPv6 40                               = 40   4
+ *     Echo      IPv6 40, UDP 8, GTP-U 12, Recovery 2  = 62  IPv6 40, UDP 8, GTP-U 12              = 60   2
+ *               IPv4 20, UDP 8, GTP-U 12, Recovery 2  = 42  IPv4 20, UDP 8, GTP-U 12              = 40   2
  *     waypoint  what was there                                                                           0
  *
  * What is sent is longest with an IPv6 payload of 65,535 octets, behind 40 of header. D4 with 7 waypoints reaches both at once, with a
@@ -160,7 +167,7 @@ static inline uint64_t kawsarpa_call_table_fault(const uint8_t *table, size_t ta
  * Number in bits 0 to 7, ICMP type in 8 to 15, ICMP code in 16 to 23, ICMP pointer in 24 to 39, length in 40 to 63.
  */
 
-/* The smallest number that applies. */
+/* The smallest number that applies, with 17 in the place of 11. */
 static inline uint8_t kawsarpa_answer_number(uint64_t answer)
 {
     return KAWSARPA_AS(uint8_t, answer & 0xFF);
@@ -214,7 +221,7 @@ enum {
     KAWSARPA_ANSWER_BAD_UDP = 9,
     /* GTP-U header cut short, not version 1 or PT 1, or length disagrees */
     KAWSARPA_ANSWER_BAD_GTPU = 10,
-    /* GTP-U message type not 255 (G-PDU) */
+    /* GTP-U message type neither 255 (G-PDU) nor 1 (Echo Request) */
     KAWSARPA_ANSWER_NOT_G_PDU = 11,
     /* an extension type but 0x85, a second container, unit count 0 or past the end */
     KAWSARPA_ANSWER_BAD_EXTENSIONS = 12,
@@ -226,6 +233,8 @@ enum {
     KAWSARPA_ANSWER_TOO_LONG = 15,
     /* the output is shorter than the result */
     KAWSARPA_ANSWER_NO_ROOM = 16,
+    /* an Echo Request (type 1) without S or with a TEID other than 0; in the place of 11 for that type */
+    KAWSARPA_ANSWER_BAD_ECHO = 17,
     /* offers only: no row is free for a new TEID */
     KAWSARPA_ANSWER_NO_ROW = 25,
     /* offers only: the row has seen 4,294,967,295 */
@@ -245,10 +254,27 @@ static inline const char *kawsarpa_answer_name(unsigned int number)
     static const char *const names[] = {
         "sent", "table not sound", "malformed packet", "bad IPv4 header", "no match", "bad header chain", "hop limit exceeded",
         "bad segments left", "bad upper layer", "bad UDP", "bad GTP-U", "not a G-PDU", "bad extensions", "bad container",
-        "bad inner packet", "too long", "no room", 0, 0, 0, 0, 0, 0, 0, 0, "no row free", "row full"
+        "bad inner packet", "too long", "no room", "bad Echo Request", 0, 0, 0, 0, 0, 0, 0, "no row free", "row full"
     };
     /* clang-format on */
     return number < sizeof names / sizeof names[0] && names[number] != 0 ? names[number] : "unknown";
+}
+
+/* The length of an Echo Response that a call sends. */
+enum {
+    KAWSARPA_ECHO_RESPONSE_IPV6 = 62,
+    KAWSARPA_ECHO_RESPONSE_IPV4 = 42
+};
+
+/*
+ * 1 where what a call sent, with answer 0, is an Echo Response of its own, 0 where it is a forwarded packet. That is exact: E6 and E4 alone
+ * send UDP (17) beside it, always a G-PDU (255) of 64 octets or more, over IPv4 44; all else that is sent is IPv6 with another next header.
+ */
+static inline int kawsarpa_is_echo_response(const uint8_t *sent, size_t length)
+{
+    if (length == KAWSARPA_ECHO_RESPONSE_IPV6)
+        return sent[0] >> 4 == 6 && sent[6] == 17 && sent[49] == 2;
+    return length == KAWSARPA_ECHO_RESPONSE_IPV4 && sent[0] >> 4 == 4 && sent[29] == 2;
 }
 
 /*
