@@ -44,7 +44,11 @@ struct verdict arrival_judge(const struct capture_packet *packet, const struct a
     static struct promise promise;
     const struct packet_reading in = packet_read(packet->octets, packet->length);
     const struct parcel *out = &arrival->out;
-    struct verdict verdict = {.arrived = out->octets != NULL, .inner_length = in.inner_length};
+    struct verdict verdict = {
+        .arrived = out->octets != NULL,
+        .echo_answered = arrival->echo_answered,
+        .inner_length = in.inner_length,
+    };
     if (!verdict.arrived)
         return verdict;
     const struct packet_reading came_out = packet_read(out->octets, out->length);
@@ -75,6 +79,8 @@ void verdict_say(FILE *to, const struct verdict *verdict)
 void verdict_json(struct json *json, const struct verdict *verdict)
 {
     json_flag(json, "arrived", verdict->arrived);
+    if (verdict->echo_answered)
+        json_flag(json, "echo_answered", true);
     if (!verdict->arrived)
         return;
     json_flag(json, "unchanged", verdict_unchanged(verdict));

@@ -18,15 +18,18 @@ struct parcel {
     size_t length;
 };
 
-/* What left the last stop, nothing after a refusal; and the entries by which it went in and came out, as stop_entry tells them. */
+/* What left the last stop, nothing after a refusal or where a stop has answered an Echo Request; and the entries by which it went in and
+   came out, as stop_entry tells them. */
 struct arrival {
     struct parcel out;
     const struct kawsarpa_entry *near;
     const struct kawsarpa_entry *far;
+    bool echo_answered;
 };
 
 struct verdict {
     bool arrived;
+    bool echo_answered;  /* the trip ended there, as it should */
     size_t inner_length; /* of what went in */
     struct differences differences;
 };

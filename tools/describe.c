@@ -61,14 +61,24 @@ static void read_gtpu(struct packet_reading *reading, struct rest rest)
     if (flags == 0) {
         read_extensions(reading, rest, 0);
     } else if (rest.length >= GTPU_OPTIONAL) {
-        const unsigned int type = (flags & 4) != 0 ? rest.octets[3] : 0; /* counts only if E is set */
+        const unsigned int type = (flags & GTPU_E) != 0 ? rest.octets[3] : 0; /* each counts only if its flag is set */
+        reading->has_sequence_number = (flags & GTPU_S) != 0;
+        reading->sequence_number = get16(rest.octets);
         read_extensions(reading, behind(rest, GTPU_OPTIONAL), type);
     }
 }
 
+/* An Echo Response comes from the port of GTP-U, and goes to the source port of the request. */
+static bool is_echo_response(struct rest rest)
+{
+    return get16(rest.octets) == GTPU_PORT && rest.length >= UDP_HEADER + GTPU_HEADER && rest.octets[UDP_HEADER + 1] == ECHO_RESPONSE;
+}
+
 static void read_upper(struct packet_reading *reading, struct rest rest)
 {
-    if (reading->next_header == NEXT_UDP && rest.length >= UDP_HEADER && get16(rest.octets + 2) == GTPU_PORT)
+    if (reading->next_header != NEXT_UDP || rest.length < UDP_HEADER)
+        return;
+    if (get16(rest.octets + 2) == GTPU_PORT || is_echo_response(rest))
         read_gtpu(reading, behind(rest, UDP_HEADER));
 }
 
@@ -154,22 +164,6 @@ static const struct word insides[] = {
     {0, NULL},
 };
 
-static const struct word messages[] = {
-    {G_PDU, "G-PDU"},
-    {END_MARKER, "End Marker"},
-    {ERROR_INDICATION, "Error Indication"},
-    {ECHO_REQUEST, "Echo Request"},
-    {ECHO_RESPONSE, "Echo Response"},
-    {0, NULL},
-};
-
-/* NULL where the number has no name here. */
-static const char *name_of(const struct word *words, unsigned int number)
-{
-    const struct word *word = word_numbered(words, number);
-    return word == NULL ? NULL : word->name;
-}
-
 static void say_segments(FILE *to, const struct packet_reading *reading)
 {
     char address[ADDRESS_ROOM];
@@ -180,7 +174,7 @@ static void say_segments(FILE *to, const struct packet_reading *reading)
 
 static void say_next_header(FILE *to, unsigned int next_header)
 {
-    const char *inside = name_of(insides, next_header);
+    const char *inside = word_name(insides, next_header);
     if (inside != NULL)
         fprintf(to, ", %s inside", inside);
     else
@@ -189,13 +183,15 @@ static void say_next_header(FILE *to, unsigned int next_header)
 
 static void say_gtpu(FILE *to, const struct packet_reading *reading)
 {
-    const char *message = name_of(messages, reading->message_type);
-    const char *direction = name_of(directions, reading->pdu_type);
+    const char *message = word_name(messages, reading->message_type);
+    const char *direction = word_name(directions, reading->pdu_type);
     if (message != NULL)
         fprintf(to, ", %s", message);
     else
         fprintf(to, ", GTP-U type %u", reading->message_type);
     fprintf(to, ", TEID 0x%08x", (unsigned int)reading->teid);
+    if (reading->has_sequence_number)
+        fprintf(to, ", sequence number %u", reading->sequence_number);
     if (!reading->has_container)
         return;
     fprintf(to, ", QFI %u, R %u", reading->qfi, reading->reflective);
@@ -245,13 +241,15 @@ static void json_segments(struct json *json, const struct packet_reading *readin
 
 static void json_gtpu(struct json *json, const struct packet_reading *reading)
 {
-    json_named(json, "message_type", reading->message_type, "message", name_of(messages, reading->message_type));
+    json_named(json, "message_type", reading->message_type, "message", word_name(messages, reading->message_type));
     json_number(json, "teid", reading->teid);
+    if (reading->has_sequence_number)
+        json_number(json, "sequence_number", reading->sequence_number);
     if (!reading->has_container)
         return;
     json_number(json, "qfi", reading->qfi);
     json_flag(json, "reflective", reading->reflective != 0);
-    json_named(json, "pdu_type", reading->pdu_type, "direction", name_of(directions, reading->pdu_type));
+    json_named(json, "pdu_type", reading->pdu_type, "direction", word_name(directions, reading->pdu_type));
 }
 
 static void json_reading(struct json *json, const struct packet_reading *reading)
@@ -266,7 +264,7 @@ static void json_reading(struct json *json, const struct packet_reading *reading
     if (reading->has_gtpu)
         json_gtpu(json, reading);
     else
-        json_named(json, "next_header", reading->next_header, "inside", name_of(insides, reading->next_header));
+        json_named(json, "next_header", reading->next_header, "inside", word_name(insides, reading->next_header));
 }
 
 void packet_json(struct json *json, const char *name, const uint8_t *packet, size_t length)

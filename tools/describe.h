@@ -25,6 +25,8 @@ struct packet_reading {
     bool has_gtpu;
     unsigned int message_type;
     uint32_t teid;
+    bool has_sequence_number; /* S is set */
+    unsigned int sequence_number;
     const uint8_t *inner; /* behind the GTP-U header and its extensions; NULL where their end could not be found */
     size_t inner_length;
 

@@ -10,6 +10,9 @@ enum { IPV4_DESTINATION = 16, IPV6_DESTINATION = 24 };
 
 enum { NEXT_UDP = 17, GTPU_PORT = 2152 };
 
+/* Flags of the first GTP-U octet: extensions follow, and the sequence number counts. */
+enum { GTPU_E = 4, GTPU_S = 2 };
+
 /* GTP-U message types, and the extension that holds the PDU Session container. */
 enum { ECHO_REQUEST = 1, ECHO_RESPONSE = 2, ERROR_INDICATION = 26, END_MARKER = 254, G_PDU = 255 };
 

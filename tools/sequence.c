@@ -1,10 +1,12 @@
 #include "sequence.h"
 
+#include <stdbool.h>
+
 #include "kawsarpa.h"
 
 /*
- * The readers give 0 exactly where one of the answers 2, 3, 5 and 7 to 11 applies, or S is clear. With a table that leads every address to
- * End.M.GTP6.D, or over IPv4 to a rule, the library's call tells which answer it is.
+ * The readers give 0 exactly where one of the answers 2, 3, 5 and 7 to 11 applies, the packet is an Echo Request, or S is clear. With a
+ * table that leads every address to End.M.GTP6.D, or over IPv4 to a rule, the library's call tells which it is.
  */
 static const struct {
     struct kawsarpa_table_header header;
@@ -23,17 +25,18 @@ uint64_t sequence_read(unsigned int version, const uint8_t *packet, size_t lengt
     return version == 4 ? kawsarpa_call_sequence_ipv4(packet, length) : kawsarpa_call_sequence_ipv6(packet, length);
 }
 
-/* Room for nothing: what would be sent is answered 16. */
-static unsigned int answer_everywhere(unsigned int version, const uint8_t *packet, size_t length)
-{
-    const uint8_t *table = (const uint8_t *)&everywhere;
-    return kawsarpa_answer_number(version == 4 ? kawsarpa_call_ipv4(packet, length, table, sizeof everywhere, NULL, 0)
-                                               : kawsarpa_call_ipv6(packet, length, table, sizeof everywhere, NULL, 0));
-}
-
 unsigned int sequence_missing(unsigned int version, const uint8_t *packet, size_t length)
 {
-    const unsigned int number = answer_everywhere(version, packet, length);
-    /* these five are about what a well-formed G-PDU holds, or about sending it */
-    return number >= KAWSARPA_ANSWER_BAD_EXTENSIONS && number <= KAWSARPA_ANSWER_NO_ROOM ? SEQUENCE_NO_S : number;
+    const uint8_t *table = (const uint8_t *)&everywhere;
+    uint8_t out[KAWSARPA_ECHO_RESPONSE_IPV6]; /* room for an Echo Response; a longer packet is answered 16 */
+    const uint64_t answer = version == 4 ? kawsarpa_call_ipv4(packet, length, table, sizeof everywhere, out, sizeof out)
+                                         : kawsarpa_call_ipv6(packet, length, table, sizeof everywhere, out, sizeof out);
+    const unsigned int number = kawsarpa_answer_number(answer);
+    /* an Echo Request is no G-PDU, though the call has an answer of its own for it */
+    if (number == KAWSARPA_ANSWER_BAD_ECHO ||
+        (number == KAWSARPA_ANSWER_SENT && kawsarpa_is_echo_response(out, kawsarpa_answer_length(answer))))
+        return KAWSARPA_ANSWER_NOT_G_PDU;
+    /* sent, and these five, are about what a well-formed G-PDU holds, or about sending it */
+    const bool g_pdu = number == KAWSARPA_ANSWER_SENT || (number >= KAWSARPA_ANSWER_BAD_EXTENSIONS && number <= KAWSARPA_ANSWER_NO_ROOM);
+    return g_pdu ? SEQUENCE_NO_S : number;
 }

@@ -4,13 +4,26 @@
 #include <string.h>
 
 #include "commands.h"
+#include "describe.h"
 #include "formats.h"
 #include "table.h"
+#include "words.h"
 
-uint64_t stop_call(const struct stop *stop, unsigned int version, const uint8_t *packet, size_t length, uint8_t out[STOP_ROOM])
+static uint64_t call(const struct stop *stop, unsigned int version, const uint8_t *packet, size_t length, uint8_t out[STOP_ROOM])
 {
     return version == 4 ? kawsarpa_call_ipv4(packet, length, stop->table.at, stop->table.count, out, STOP_ROOM)
                         : kawsarpa_call_ipv6(packet, length, stop->table.at, stop->table.count, out, STOP_ROOM);
+}
+
+struct outcome stop_call(const struct stop *stop, unsigned int version, const uint8_t *packet, size_t length, uint8_t out[STOP_ROOM])
+{
+    struct outcome outcome = {.answer = call(stop, version, packet, length, out)};
+    if (kawsarpa_answer_number(outcome.answer) == KAWSARPA_ANSWER_SENT) {
+        outcome.sent = out;
+        outcome.sent_length = kawsarpa_answer_length(outcome.answer);
+        outcome.echo_answered = kawsarpa_is_echo_response(out, outcome.sent_length) != 0;
+    }
+    return outcome;
 }
 
 /* What the library says of an IPv6 destination: 0 where an End entry is its longest match; it names one of another behaviour. */
@@ -120,20 +133,26 @@ void stop_free(struct stop *stop)
     stop->table.at = NULL;
 }
 
-void stop_say_answer(FILE *to, uint64_t answer)
+static void say_refusal(FILE *to, uint64_t answer)
 {
     const unsigned int number = kawsarpa_answer_number(answer);
-    if (number == KAWSARPA_ANSWER_SENT) {
-        fputs(kawsarpa_answer_name(number), to);
-        return;
-    }
     fprintf(to, "refused, %u %s", number, kawsarpa_answer_name(number));
     if (kawsarpa_answer_icmp_type(answer) != 0)
         fprintf(to, " (ICMPv6 type %u, code %u, pointer %u)", kawsarpa_answer_icmp_type(answer), kawsarpa_answer_icmp_code(answer),
                 kawsarpa_answer_icmp_pointer(answer));
 }
 
-void stop_json_answer(struct json *json, uint64_t answer)
+void stop_say_outcome(FILE *to, const struct outcome *outcome)
+{
+    if (outcome->sent == NULL) {
+        say_refusal(to, outcome->answer);
+        return;
+    }
+    fprintf(to, "%s: ", outcome->echo_answered ? echo_answered_words : kawsarpa_answer_name(KAWSARPA_ANSWER_SENT));
+    packet_describe(to, outcome->sent, outcome->sent_length);
+}
+
+static void json_answer(struct json *json, uint64_t answer)
 {
     const unsigned int number = kawsarpa_answer_number(answer);
     json_object(json, "answer");
@@ -148,4 +167,14 @@ void stop_json_answer(struct json *json, uint64_t answer)
         json_close(json);
     }
     json_close(json);
+}
+
+void stop_json_outcome(struct json *json, const struct outcome *outcome)
+{
+    json_answer(json, outcome->answer);
+    if (outcome->sent == NULL)
+        return;
+    if (outcome->echo_answered)
+        json_flag(json, "echo_answered", true);
+    packet_json(json, "sent", outcome->sent, outcome->sent_length);
 }

@@ -24,8 +24,16 @@ int stop_load(struct stop *stop, const char *name);
 
 void stop_free(struct stop *stop);
 
-/* The library's answer to a packet of this IP version; what is sent stands in out. */
-uint64_t stop_call(const struct stop *stop, unsigned int version, const uint8_t *packet, size_t length, uint8_t out[STOP_ROOM]);
+/* What the library did with a packet. */
+struct outcome {
+    uint64_t answer;
+    const uint8_t *sent; /* NULL after a refusal */
+    size_t sent_length;
+    bool echo_answered; /* the packet is an Echo Request, and what is sent the Echo Response; else it is forwarded */
+};
+
+/* The library's call for a packet of this IP version; what is sent stands in out. */
+struct outcome stop_call(const struct stop *stop, unsigned int version, const uint8_t *packet, size_t length, uint8_t out[STOP_ROOM]);
 
 /* The entry that the library goes by for a packet of this IP version. NULL: a waypoint's, a rule, or none. */
 const struct kawsarpa_entry *stop_entry(const struct stop *stop, unsigned int version, const uint8_t *packet, size_t length);
@@ -43,8 +51,8 @@ bool stop_find(const struct stop *stop, unsigned int version, const uint8_t *pac
 void stop_say_record(FILE *to, const struct stop *stop, struct stop_record record);
 void stop_json_record(struct json *json, const char *name, const struct stop *stop, struct stop_record record);
 
-/* An answer in words, with its number and what an ICMPv6 message would say, where it is a refusal. */
-void stop_say_answer(FILE *to, uint64_t answer);
-void stop_json_answer(struct json *json, uint64_t answer);
+/* The answer in words, with its number and what an ICMPv6 message would say, where it is a refusal; else with what is sent. */
+void stop_say_outcome(FILE *to, const struct outcome *outcome);
+void stop_json_outcome(struct json *json, const struct outcome *outcome);
 
 #endif

@@ -12,6 +12,7 @@
 #include "options.h"
 #include "progress.h"
 #include "stop.h"
+#include "words.h"
 
 struct arguments {
     const char *table;
@@ -32,6 +33,7 @@ struct run {
     bool as_json;
     bool quiet;
     unsigned long answers[UINT8_MAX + 1];
+    unsigned long echo_answered; /* not among the answers */
     size_t longest_in;
     size_t longest_sent;
 };
@@ -47,20 +49,14 @@ struct trace {
     const struct capture_packet *packet;
     bool found;
     struct stop_record record; /* where one was found */
-    uint64_t answer;
-    const uint8_t *sent; /* NULL: it was refused */
-    size_t sent_length;
+    const struct outcome *outcome;
 };
 
-static struct trace make_trace(const struct run *run, const struct capture_packet *packet, uint64_t answer, const uint8_t *sent)
+static struct trace make_trace(const struct run *run, const struct capture_packet *packet, const struct outcome *outcome)
 {
-    const unsigned int number = kawsarpa_answer_number(answer);
-    struct trace trace = {.packet = packet, .answer = answer};
-    trace.found = found_record(number) && stop_find(&run->stop, packet->version, packet->octets, packet->length, &trace.record);
-    if (number == KAWSARPA_ANSWER_SENT) {
-        trace.sent = sent;
-        trace.sent_length = kawsarpa_answer_length(answer);
-    }
+    struct trace trace = {.packet = packet, .outcome = outcome};
+    trace.found = found_record(kawsarpa_answer_number(outcome->answer)) &&
+                  stop_find(&run->stop, packet->version, packet->octets, packet->length, &trace.record);
     return trace;
 }
 
@@ -73,11 +69,7 @@ static void say_trace(struct run *run, const struct trace *trace)
         stop_say_record(run->account, &run->stop, trace->record);
         fputs(": ", run->account);
     }
-    stop_say_answer(run->account, trace->answer);
-    if (trace->sent != NULL) {
-        fputs(": ", run->account);
-        packet_describe(run->account, trace->sent, trace->sent_length);
-    }
+    stop_say_outcome(run->account, trace->outcome);
     fputc('\n', run->account);
 }
 
@@ -100,9 +92,7 @@ static void json_trace(struct run *run, const struct trace *trace)
     packet_json(json, "in", trace->packet->octets, trace->packet->length);
     if (trace->found)
         stop_json_record(json, "record", &run->stop, trace->record);
-    stop_json_answer(json, trace->answer);
-    if (trace->sent != NULL)
-        packet_json(json, "sent", trace->sent, trace->sent_length);
+    stop_json_outcome(json, trace->outcome);
     json_close(json);
 }
 
@@ -111,23 +101,35 @@ static size_t larger(size_t a, size_t b)
     return a > b ? a : b;
 }
 
+/* Echo Requests that were answered are counted apart from what is forwarded. */
+static void count(struct run *run, const struct capture_packet *packet, const struct outcome *outcome)
+{
+    if (outcome->echo_answered) {
+        run->echo_answered++;
+        return;
+    }
+    run->answers[kawsarpa_answer_number(outcome->answer)]++;
+    if (outcome->sent != NULL) {
+        run->longest_in = larger(run->longest_in, packet->length);
+        run->longest_sent = larger(run->longest_sent, outcome->sent_length);
+    }
+}
+
 /* Translates one packet; the exit code, not 0 where what was sent, or its trace, could not be written. */
 static int translate_packet(struct run *run, const struct capture_packet *packet)
 {
     static uint8_t sent[STOP_ROOM];
-    const uint64_t answer = stop_call(&run->stop, packet->version, packet->octets, packet->length, sent);
+    const struct outcome outcome = stop_call(&run->stop, packet->version, packet->octets, packet->length, sent);
     int code = EXIT_DONE;
-    run->answers[kawsarpa_answer_number(answer)]++;
+    count(run, packet, &outcome);
     if (run->trace) {
-        const struct trace trace = make_trace(run, packet, answer, sent);
+        const struct trace trace = make_trace(run, packet, &outcome);
         (run->as_json ? json_trace : say_trace)(run, &trace);
         code = output_printed(run->account);
     }
-    if (code != EXIT_DONE || kawsarpa_answer_number(answer) != KAWSARPA_ANSWER_SENT)
+    if (code != EXIT_DONE || outcome.sent == NULL)
         return code;
-    run->longest_in = larger(run->longest_in, packet->length);
-    run->longest_sent = larger(run->longest_sent, kawsarpa_answer_length(answer));
-    const bool added = capture_add(run->out.file, packet->time, sent, kawsarpa_answer_length(answer));
+    const bool added = capture_add(run->out.file, packet->time, outcome.sent, outcome.sent_length);
     return added ? EXIT_DONE : output_fault(&run->out);
 }
 
@@ -145,12 +147,20 @@ static int translate_all(struct run *run)
     return code == EXIT_DONE ? run->reader.code : code;
 }
 
+static void say_count(struct run *run, unsigned long packets, unsigned int number, const char *words)
+{
+    if (packets > 0)
+        fprintf(run->account, "%8lu  %2u %s\n", packets, number, words);
+}
+
 static void say_summary(struct run *run)
 {
     capture_say_counts(run->account, &run->reader.counts);
-    for (unsigned int number = 0; number <= UINT8_MAX; number++)
-        if (run->answers[number] > 0)
-            fprintf(run->account, "%8lu  %2u %s\n", run->answers[number], number, kawsarpa_answer_name(number));
+    for (unsigned int number = 0; number <= UINT8_MAX; number++) {
+        say_count(run, run->answers[number], number, kawsarpa_answer_name(number));
+        if (number == KAWSARPA_ANSWER_SENT)
+            say_count(run, run->echo_answered, number, echo_answered_words);
+    }
     if (run->longest_sent > 0)
         fprintf(run->account, "longest packet: %zu octets in, %zu sent\n", run->longest_in, run->longest_sent);
 }
@@ -178,6 +188,7 @@ static void json_summary(struct run *run)
         json_close(json);
     capture_json(json, &run->reader);
     json_answers(json, run->answers);
+    json_number(json, "echo_answered", run->echo_answered);
     if (run->longest_sent > 0) {
         json_object(json, "longest");
         json_number(json, "in", run->longest_in);
@@ -268,8 +279,9 @@ static const struct argp_option option_list[] = {
 };
 
 static const char words[] =
-    "Makes the call of its IP version for each packet of a capture, and counts the answers. IN.pcap is a pcap or pcapng capture of "
-    "Ethernet, Linux cooked or raw IP. OUT.pcap gets what is sent, as raw IP with the times of the packets that went in. Frames that are "
+    "Makes the call of its IP version for each packet of a capture, and counts the answers; Echo Requests that are answered are counted "
+    "apart from what is sent on. IN.pcap is a pcap or pcapng capture of Ethernet, Linux cooked or raw IP. OUT.pcap gets what is sent, "
+    "Echo Responses too, as raw IP with the times of the packets that went in. Frames that are "
     "not IP or are snapped are left out and counted; padding of the link is cut off. TABLE, IN.pcap and OUT.pcap may be `-'; if OUT.pcap "
     "is, all else is printed on standard error. OUT.pcap may not be a file that is read. Of a capture that is cut at its end the packets "
     "before the cut are used."

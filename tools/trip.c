@@ -15,6 +15,7 @@
 #include "options.h"
 #include "progress.h"
 #include "stop.h"
+#include "words.h"
 
 /* The near gateway, the waypoints, the far gateway. */
 enum { STOPS_MAX = KAWSARPA_WAYPOINTS_MAX + 2 };
@@ -41,6 +42,7 @@ struct trip {
     bool quiet;
     unsigned long arrived;
     unsigned long unchanged; /* of those, what came out as it has to */
+    unsigned long echo_answered;
 };
 
 static void say_packet(struct trip *trip, const struct capture_packet *packet)
@@ -62,21 +64,18 @@ static void json_packet(struct trip *trip, const struct capture_packet *packet)
 struct event {
     const char *stop;
     size_t via; /* from 1, at a waypoint; else 0 */
-    uint64_t answer;
-    struct parcel sent; /* no octets after a refusal */
+    struct outcome outcome;
 };
 
-static struct event make_event(const struct trip *trip, size_t stop, uint64_t answer, const uint8_t *sent)
+static struct event make_event(const struct trip *trip, size_t stop, const struct outcome *outcome)
 {
-    struct event event = {.stop = "via", .answer = answer};
+    struct event event = {.stop = "via", .outcome = *outcome};
     if (stop == 0)
         event.stop = "near";
     else if (stop + 1 == trip->stop_count)
         event.stop = "far";
     else
         event.via = stop;
-    if (kawsarpa_answer_number(answer) == KAWSARPA_ANSWER_SENT)
-        event.sent = (struct parcel){sent, kawsarpa_answer_length(answer)};
     return event;
 }
 
@@ -86,11 +85,7 @@ static void say_event(struct trip *trip, const struct event *event)
     if (event->via != 0)
         fprintf(trip->account, " %zu", event->via);
     fputs(": ", trip->account);
-    stop_say_answer(trip->account, event->answer);
-    if (event->sent.octets != NULL) {
-        fputs(": ", trip->account);
-        packet_describe(trip->account, event->sent.octets, event->sent.length);
-    }
+    stop_say_outcome(trip->account, &event->outcome);
     fputc('\n', trip->account);
 }
 
@@ -101,29 +96,28 @@ static void json_event(struct trip *trip, const struct event *event)
     json_text(json, "stop", event->stop);
     if (event->via != 0)
         json_number(json, "number", event->via);
-    stop_json_answer(json, event->answer);
-    if (event->sent.octets != NULL)
-        packet_json(json, "sent", event->sent.octets, event->sent.length);
+    stop_json_outcome(json, &event->outcome);
     json_close(json);
 }
 
-/* Sends a packet through every stop. */
+/* Sends a packet through every stop, but not past one that refuses it, or that answers it as an Echo Request. */
 static struct arrival walk(struct trip *trip, const struct capture_packet *packet)
 {
     static uint8_t buffers[2][STOP_ROOM]; /* what arrives at a stop and what leaves it */
-    struct arrival arrival = {{NULL, 0}, stop_entry(&trip->stops[0], packet->version, packet->octets, packet->length), NULL};
+    struct arrival arrival = {.near = stop_entry(&trip->stops[0], packet->version, packet->octets, packet->length)};
     struct parcel here = {packet->octets, packet->length};
     unsigned int version = packet->version;
     for (size_t i = 0; i < trip->stop_count; i++) {
         uint8_t *sent = buffers[i % 2];
-        const uint64_t answer = stop_call(&trip->stops[i], version, here.octets, here.length, sent);
-        const struct event event = make_event(trip, i, answer, sent);
+        const struct outcome outcome = stop_call(&trip->stops[i], version, here.octets, here.length, sent);
+        const struct event event = make_event(trip, i, &outcome);
         (trip->as_json ? json_event : say_event)(trip, &event);
-        if (event.sent.octets == NULL)
+        arrival.echo_answered = outcome.echo_answered;
+        if (outcome.sent == NULL || outcome.echo_answered)
             return arrival;
         if (i + 1 == trip->stop_count)
             arrival.far = stop_entry(&trip->stops[i], version, here.octets, here.length);
-        here = event.sent;
+        here = (struct parcel){outcome.sent, outcome.sent_length};
         version = sent[0] >> 4;
     }
     arrival.out = here;
@@ -152,6 +146,7 @@ static int send_packet(struct trip *trip, const struct capture_packet *packet)
     (trip->as_json ? json_verdict : say_verdict)(trip, &verdict);
     trip->arrived += verdict.arrived;
     trip->unchanged += verdict_unchanged(&verdict);
+    trip->echo_answered += verdict.echo_answered;
     const int code = output_printed(trip->account);
     if (code != EXIT_DONE || out->octets == NULL)
         return code;
@@ -174,13 +169,21 @@ static int send_all(struct trip *trip)
     return code == EXIT_DONE ? trip->reader.code : code;
 }
 
+/* How many packets have to arrive. */
+static unsigned long travellers(const struct trip *trip)
+{
+    return trip->reader.counts.packets - trip->echo_answered;
+}
+
 static void say_summary(struct trip *trip)
 {
     capture_say_counts(trip->account, &trip->reader.counts);
+    if (trip->echo_answered > 0)
+        fprintf(trip->account, "%8lu  %s\n", trip->echo_answered, echo_answered_words);
     fprintf(trip->account,
-            "%lu of %lu packets arrived, %lu of them with the destination, TEID, QFI, R, traffic class and inner octets "
+            "%lu of %lu %spackets arrived, %lu of them with the destination, TEID, QFI, R, traffic class and inner octets "
             "that went in\n",
-            trip->arrived, trip->reader.counts.packets, trip->unchanged);
+            trip->arrived, travellers(trip), trip->echo_answered > 0 ? "other " : "", trip->unchanged);
 }
 
 static void json_summary(struct trip *trip)
@@ -189,13 +192,14 @@ static void json_summary(struct trip *trip)
     capture_json(&trip->json, &trip->reader);
     json_number(&trip->json, "arrived", trip->arrived);
     json_number(&trip->json, "unchanged", trip->unchanged);
+    json_number(&trip->json, "echo_answered", trip->echo_answered);
     json_finish(&trip->json, false);
 }
 
 static int summarize(struct trip *trip)
 {
     (trip->as_json ? json_summary : say_summary)(trip);
-    return trip->unchanged == trip->reader.counts.packets ? capture_end_code(&trip->reader) : EXIT_INPUT;
+    return trip->unchanged == travellers(trip) ? capture_end_code(&trip->reader) : EXIT_INPUT;
 }
 
 static int trip_into(struct trip *trip, const char *out)
@@ -356,6 +360,8 @@ static const char words[] =
     "they went in, over IPv4 the source too; hop limit, UDP source port and over IPv6 the source of the far entry; all else as it is "
     "always written. One that is not so has arrived changed, and its line says in what: fields, and octets of a header, counted from 0. Of "
     "other packets the parts that the line names are compared, and the direction.\n"
+    "\n"
+    "The trip of an Echo Request ends at the stop that answers it. It is counted apart, and is no fault.\n"
     "\n"
     "Exit codes: 0 every packet arrived with what went in; 1 one did not arrive, or arrived changed, the capture is bad or cut, or a table "
     "not sound; 2 wrong usage; 3 the system failed.";

@@ -3,6 +3,7 @@
 #include <stdbool.h>
 #include <string.h>
 
+#include "formats.h"
 #include "kawsarpa.h"
 
 const struct word behaviours[] = {
@@ -28,6 +29,15 @@ const struct word session_types[] = {
     {0, NULL},
 };
 
+const struct word messages[] = {
+    {G_PDU, "G-PDU"},
+    {END_MARKER, "End Marker"},
+    {ERROR_INDICATION, "Error Indication"},
+    {ECHO_REQUEST, "Echo Request"},
+    {ECHO_RESPONSE, "Echo Response"},
+    {0, NULL},
+};
+
 const struct word *word_numbered(const struct word *words, unsigned int number)
 {
     for (; words->name != NULL; words++)
@@ -44,10 +54,18 @@ const struct word *word_named(const struct word *words, const char *name)
     return NULL;
 }
 
+const char *word_name(const struct word *words, unsigned int number)
+{
+    const struct word *word = word_numbered(words, number);
+    return word == NULL ? NULL : word->name;
+}
+
+const char echo_answered_words[] = "Echo Request answered";
+
 /* By answer number. The first words are those of the table of answers; D4 is H.M.GTP4.D, what an IPv4 rule does. */
 /* clang-format off */
 static const struct answer_words answers[] = {
-    {"No other number applies: the packet was translated, or passed on at a waypoint.",
+    {"No other number applies: the packet was translated, or passed on at a waypoint; or it is an Echo Request, and was answered.",
      NULL,
      "Nothing is wrong here.",
      "If the packet is missing further on, look at the next stop: `kawsarpa trip' follows a packet over several tables."},
@@ -102,10 +120,11 @@ static const struct answer_words answers[] = {
      NULL,
      "Something that is not GTP-U is sent to port 2152, GTP' (PT 0) is used, or the packet was cut short.",
      "Read the first GTP-U octet in a capture: it is 3x. Compare the length field with the octets behind the first 8."},
-    {"The GTP-U message is not a G-PDU (type 255).",
+    {"The GTP-U message is neither a G-PDU (type 255) nor an Echo Request (1), which is answered.",
      NULL,
-     "Echo Requests (1) of a base station, Error Indications (26) or End Markers (254). They carry no user packet and are not translated.",
-     "A few are normal. If the base station takes the path down, its Echo Requests need an answer from elsewhere."},
+     "Error Indications (26), End Markers (254), or Echo Responses (2) to a request of someone else. They carry no user packet and are not "
+     "translated.",
+     "A few are normal, more at handovers. Many Error Indications: a peer does not know the TEID, as after a restart."},
     {"A GTP-U extension header of a type other than 0x85, a second PDU Session container, or a unit count that is 0 or passes the end.",
      NULL,
      "The base station or UPF adds extension headers, such as PDCP PDU Number or RAN Container, that the gateway does not carry.",
@@ -126,6 +145,11 @@ static const struct answer_words answers[] = {
      NULL,
      "The program that calls the library lends too small a buffer: what is sent has up to 132 octets more than what arrived.",
      "Report it to whoever writes that program. `kawsarpa check TABLE' prints how much each entry adds."},
+    {"An Echo Request (type 1) without S or with a TEID other than 0; in the place of 11 for that type.",
+     NULL,
+     "A base station, UPF or test program whose Echo Requests are not those of TS 29.281, which has S set and TEID 0. It gets no Echo "
+     "Response, and takes the path for dead.",
+     "Read the first GTP-U octet (32, S set) and the TEID in a capture. `kawsarpa echo ADDRESS' sends right ones; compare."},
     [KAWSARPA_ANSWER_NO_ROW] =
     {"An offer of a sequence number: the TEID has no row, and no row is free. There are 256 at most.",
      NULL,

@@ -15,10 +15,14 @@ struct word {
 extern const struct word behaviours[]; /* RFC 8986, RFC 9433 */
 extern const struct word directions[];
 extern const struct word session_types[]; /* TS 24.501 */
+extern const struct word messages[];      /* of GTP-U, TS 29.281 */
 
 /* The word with a number, or with a name; NULL where there is none. */
 const struct word *word_numbered(const struct word *words, unsigned int number);
 const struct word *word_named(const struct word *words, const char *name);
+
+/* The name of a number; NULL where it has none. */
+const char *word_name(const struct word *words, unsigned int number);
 
 /* What an answer means, and what to do about it on site. */
 struct answer_words {
@@ -30,6 +34,9 @@ struct answer_words {
 
 /* NULL for a number that is no answer. */
 const struct answer_words *answer_words(unsigned long number);
+
+/* What is said in place of the name of answer 0 where the packet was an Echo Request. */
+extern const char echo_answered_words[];
 
 struct fault_words {
     const char *broken; /* what is wrong with the record */

@@ -17,6 +17,7 @@ ETHERNET, SLL, SLL2, RAW, RAW_LINUX, RAW_OPENBSD, IPV4, IPV6, IEEE802_11 = 1, 11
 MICROSECONDS, NANOSECONDS = 0xA1B2C3D4, 0xA1B23C4D
 WAYPOINTS = ["2001:db8:1::e", "2001:db8:2::e"]
 SECOND = 1767258000
+ECHO_RESPONSE = 2
 
 
 def load(name: str, path: Path) -> ModuleType:
@@ -89,6 +90,56 @@ def srv6(source: str, traffic_class: int, path: list[str], inner: bytes) -> byte
     return header + ip_address(source).packed + ip_address(path[0]).packed + srh + inner
 
 
+def echo_request(number: int, port: int, flags: int = 0, more: bytes = bytes(2)) -> bytes:
+    """With S and TEID 0; behind the sequence number what else is given."""
+    payload = struct.pack(">H", number) + more
+    return yard.udp(port, yard.GTPU_PORT, struct.pack(">BBHI", 0x32 | flags, 1, len(payload), 0) + payload)
+
+
+def echo_response(number: int, port: int) -> bytes:
+    return yard.udp(yard.GTPU_PORT, port, bytes.fromhex("32020006 00000000") + struct.pack(">H", number) + bytes.fromhex("0000 0e00"))
+
+
+def without_checksum(packet: bytes) -> bytes:
+    """An IPv6 packet whose UDP has no checksum."""
+    return packet[:46] + bytes(2) + packet[48:]
+
+
+def along(packet: bytes, segments_left: int, path: list[str]) -> bytes:
+    """An IPv6 packet of UDP with an SRH: the segments of a path, in order of travel."""
+    last = len(path) - 1
+    srh = bytes([yard.UDP, 2 * len(path), 4, segments_left, last, 0, 0, 0]) + b"".join(ip_address(s).packed for s in reversed(path))
+    destination = ip_address(path[last - segments_left]).packed
+    return packet[:4] + struct.pack(">HB", len(packet) - 40 + len(srh), 43) + packet[7:24] + destination + srh + packet[40:]
+
+
+def echoes() -> tuple[list[Packet], list[Packet], list[Packet]]:
+    """Echo Requests that are answered, the Echo Responses, and what is refused: 17, 17, 17, 10, 11."""
+    elements = bytes.fromhex("0000 00c0 0100000000 ff0002abcd")  # N-PDU number, an extension, Private Extension: not examined
+    requests = [
+        yard.ipv6(yard.UPF6, yard.RADIO6, 0xB8, echo_request(7, yard.GTPU_PORT)),
+        yard.ipv4(yard.UPF4, yard.RADIO4, 0x20, echo_request(8, 40000)),
+        along(yard.ipv6(yard.UPF6, yard.RADIO6, 0, echo_request(65535, 1, 5, elements)), 0, [yard.RADIO6]),
+    ]
+    responses = [
+        without_checksum(yard.ipv6(yard.RADIO6, yard.UPF6, 0xB8, echo_response(7, yard.GTPU_PORT))),
+        yard.ipv4(yard.RADIO4, yard.UPF4, 0x20, echo_response(8, 40000)),
+        without_checksum(yard.ipv6(yard.RADIO6, yard.UPF6, 0, echo_response(65535, 1))),
+    ]
+    refused = [
+        yard.ipv6(yard.UPF6, yard.RADIO6, 0, yard.gtpu(yard.ECHO_REQUEST, 0)),
+        yard.ipv4(yard.UPF4, yard.RADIO4, 0, yard.gtpu(yard.ECHO_REQUEST, 0)),
+        yard.ipv4(yard.UPF4, yard.RADIO4, 0, yard.gtpu(yard.ECHO_REQUEST, 1, bytes(4), yard.S)),
+        yard.ipv6(yard.UPF6, yard.RADIO6, 0, yard.gtpu(yard.ECHO_REQUEST, 0, bytes(3), yard.S)),
+        yard.ipv6(yard.UPF6, yard.RADIO6, 0, yard.gtpu(ECHO_RESPONSE, 0, bytes.fromhex("000700000e00"), yard.S)),
+    ]
+
+    def times(packets: list[bytes], first: int) -> list[Packet]:
+        return [(first + number, packet) for number, packet in enumerate(packets)]
+
+    return times(requests, 1), times(responses, 1), times(refused, 10)
+
+
 def same(packets: list[Packet]) -> dict[str, bytes]:
     """Captures of every link type and format: the same packets, so the same result."""
     return {
@@ -144,6 +195,14 @@ def main() -> None:
         write(name, octets)
     write("ipv4.pcap", pcap(IPV4, [over4, marker]))
     write("ipv6.pcap", pcap(IPV6, [over6, last6]))
+
+    requests, responses, bad = echoes()
+    write("echo.pcap", pcap(RAW, [over6, *requests, *bad]))
+    sent("echo-sent.expected", [sent6, *responses])
+    write("echo-good.pcap", pcap(RAW, [over6, *requests, last6]))
+    write("echo-alone.pcap", pcap(RAW, requests))
+    passed = along(yard.ipv6(yard.UPF6, yard.RADIO6, 0xB8, echo_request(9, 5000)), 1, [WAYPOINTS[0], yard.RADIO6])
+    write("echo-passed.pcap", pcap(RAW, [(0, passed)]))
 
     # what is counted and left out, or refused
     write("empty.pcap", pcap(ETHERNET, []))

@@ -131,6 +131,37 @@ run 0 translate --table "$work/nested" --trace "$work/sent.pcap" "$work/out/pass
 printed "  entry 1 End 2000::/3: sent: IPv6 2001:db8:f::1 > 2001:db8:2::e, traffic class 0xb8, \
 SL 2 then 2001:db8:b:1:1601:203:400:0, 2001:db8:77::9, IPv4 inside, 152 octets"
 
+# Echo Requests: the Echo Responses are sent, and counted apart from what is forwarded
+run 0 translate --table "$work/office" --trace "$work/echo.pcap" "$work/out/sent.pcap"
+same out/sent.pcap echo-sent.expected
+printed "packet 2: IPv6 2001:db8:a0::1 > 2001:db8:77::9, traffic class 0xb8, Echo Request, TEID 0x00000000, sequence number 7, 60 octets"
+printed "  entry 2 End.M.GTP6.D.Di 2001:db8:77::/48: Echo Request answered: IPv6 2001:db8:77::9 > 2001:db8:a0::1, traffic class 0xb8, \
+Echo Response, TEID 0x00000000, sequence number 7, 62 octets"
+printed "  rule 1 H.M.GTP4.D 192.0.2.0/24: Echo Request answered: IPv4 192.0.2.9 > 198.51.100.7, traffic class 0x20, \
+Echo Response, TEID 0x00000000, sequence number 8, 42 octets"
+printed "  entry 2 End.M.GTP6.D.Di 2001:db8:77::/48: Echo Request answered: IPv6 2001:db8:77::9 > 2001:db8:a0::1, traffic class 0x00, \
+Echo Response, TEID 0x00000000, sequence number 65535, 62 octets"
+printed "packet 5: IPv6 2001:db8:a0::1 > 2001:db8:77::9, traffic class 0x00, Echo Request, TEID 0x00000000, 56 octets"
+printed "  entry 2 End.M.GTP6.D.Di 2001:db8:77::/48: refused, 17 bad Echo Request"
+printed "packet 7: IPv4 198.51.100.7 > 192.0.2.9, traffic class 0x00, Echo Request, TEID 0x00000001, sequence number 0, 40 octets"
+printed "  rule 1 H.M.GTP4.D 192.0.2.0/24: refused, 17 bad Echo Request"
+printed "  entry 2 End.M.GTP6.D.Di 2001:db8:77::/48: refused, 10 bad GTP-U"
+printed "  entry 2 End.M.GTP6.D.Di 2001:db8:77::/48: refused, 11 not a G-PDU"
+sed -i '1,/^frames/d' "$work/stdout"
+all_printed <<'END'
+       1   0 sent
+       3   0 Echo Request answered
+       1  10 bad GTP-U
+       1  11 not a G-PDU
+       3  17 bad Echo Request
+longest packet: 104 octets in, 152 sent
+END
+translate 0 echo-alone.pcap
+all_printed <<'END'
+frames 3: IP packets 3, not IP 0, snapped 0; padding cut 0
+       3   0 Echo Request answered
+END
+
 # standard input and output
 "$tool" translate --table "$work/office" - - <"$work/downlink.pcap" >"$work/out/sent.pcap" 2>"$work/stderr" || fail "from - to -"
 same out/sent.pcap sent.expected
@@ -148,6 +179,27 @@ printed "3 of 3 packets arrived, 3 of them with the destination, TEID, QFI, R, t
 run 0 trip "${uplink[@]}" "$work/uplink.pcap"
 printed "2 of 2 packets arrived, 2 of them with the destination, TEID, QFI, R, traffic class and inner octets that went in"
 run 0 trip "${downlink[@]}" "$work/empty.pcap"
+
+# the trip of an Echo Request ends where it is answered, and is no fault; at the near gateway, or behind a waypoint
+run 0 trip "${downlink[@]}" "$work/echo-good.pcap" -o "$work/out/arrived.pcap"
+printed "  near: Echo Request answered: IPv6 2001:db8:77::9 > 2001:db8:a0::1, traffic class 0xb8, Echo Response, TEID 0x00000000, \
+sequence number 7, 62 octets"
+[ "$(grep -c '^  near: Echo Request answered: ' "$work/stdout")" -eq 3 ] || fail "not three Echo Requests are answered"
+[ "$(grep -c '^  far: ' "$work/stdout")" -eq 2 ] || fail "an Echo Request goes on"
+printed "       3  Echo Request answered"
+printed "2 of 2 other packets arrived, 2 of them with the destination, TEID, QFI, R, traffic class and inner octets that went in"
+run 0 translate --table "$work/gate" "$work/out/arrived.pcap" "$work/out/passed.pcap"
+printed "frames 2: IP packets 2, not IP 0, snapped 0; padding cut 0"
+run 1 trip "${downlink[@]}" "$work/echo.pcap"
+printed "  near: refused, 17 bad Echo Request"
+printed "1 of 6 other packets arrived, 1 of them with the destination, TEID, QFI, R, traffic class and inner octets that went in"
+run 0 trip "${downlink[@]}" "$work/echo-alone.pcap"
+printed "0 of 0 other packets arrived, 0 of them with the destination, TEID, QFI, R, traffic class and inner octets that went in"
+run 0 trip --near "$work/gate" --far "$work/office" "$work/echo-passed.pcap"
+printed "  far: Echo Request answered: IPv6 2001:db8:77::9 > 2001:db8:a0::1, traffic class 0xb8, Echo Response, TEID 0x00000000, \
+sequence number 9, 62 octets"
+run 0 trip "${downlink[@]}" -q "$work/echo-good.pcap"
+nothing_printed
 
 # trips that do not arrive: a waypoint left out, the wrong way round, no SRH behind the far gateway
 run 1 trip --near "$work/office" --via "$work/mast" --far "$work/crane" "$work/downlink.pcap"
@@ -309,7 +361,7 @@ run 0 trip "${uplink[@]}" --quiet "$work/uplink.pcap"
 nothing_printed
 
 # the field guide tells each answer, under its name
-for number in {0..16} 25 26; do
+for number in {0..17} 25 26; do
     name=$("$tool" explain "$number" | sed -n "s/^$number: //p")
     grep -qF -e "- **$number $name**: " -e "| $number $name |" "$here/../../docs/FIELD-GUIDE.md" ||
         fail "not in the field guide: $number $name"

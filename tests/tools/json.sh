@@ -75,6 +75,7 @@ all_printed <<'END'
   "answers": [
     {"number": 0, "name": "sent", "packets": 3},
     {"number": 11, "name": "not a G-PDU", "packets": 1}],
+  "echo_answered": 0,
   "longest": {"in": 104, "sent": 152},
   "broken_off": false}
 END

@@ -12,6 +12,7 @@ from typing import Any, NoReturn
 MESSAGES = {255: "G-PDU", 254: "End Marker", 26: "Error Indication", 1: "Echo Request", 2: "Echo Response"}
 INSIDE = {4: "IPv4", 41: "IPv6", 143: "Ethernet"}
 DIRECTIONS = {0: "downlink", 1: "uplink"}
+ECHO_ANSWERED = "Echo Request answered"
 ARRIVED = "destination, TEID, QFI, R, traffic class and"
 used: list[str] = []  # the names of members, as they were taken
 
@@ -119,6 +120,8 @@ def packet(members: Members) -> str:
                 f"{line}, next header {following}, {octets} octets"
         expect(m.may("message", str), MESSAGES.get(kind), "message")
         line += f", {MESSAGES.get(kind, f'GTP-U type {kind}')}, TEID 0x{m.number('teid'):08x}"
+        number = m.may("sequence_number", int)
+        line += "" if number is None else f", sequence number {number}"
         qfi = m.may("qfi", int)
         if qfi is not None:
             direction = m.number("pdu_type")
@@ -142,6 +145,9 @@ def answer(members: Members) -> tuple[bool, str]:
 def answered(m: Members) -> str:
     """The answer, and what is sent."""
     sent, line = answer(m.object("answer"))
+    if "echo_answered" in m.left:
+        expect((sent, m.flag("echo_answered")), (True, True), "echo_answered")
+        line = ECHO_ANSWERED
     return line + (f": {packet(m.object('sent'))}" if sent else "")
 
 
@@ -352,20 +358,22 @@ def translate(m: Members, options: dict[str, list[str]], _: str) -> str:
         return text
     lines, packets, _ = capture(m, options[""][0])
     text += lines
+    counts = []
     for each in m.objects("answers"):
         with each as a:
-            count = a.number("packets")
-            text += f"{count:8}  {a.number('number'):2} {a.text('name')}\n"
-            packets -= count
-    expect(packets, 0, "packets without an answer")
+            counts.append((a.number("number"), a.text("name"), a.number("packets")))
+    echoes = m.number("echo_answered")
+    counts.insert(sum(number == 0 for number, _, _ in counts), (0, ECHO_ANSWERED, echoes))
+    text += "".join(f"{count:8}  {number:2} {name}\n" for number, name, count in counts if count)
+    expect(sum(count for _, _, count in counts), packets, "packets with an answer")
     if "longest" in m.left:
         with m.object("longest") as longest:
             text += f"longest packet: {longest.number('in')} octets in, {longest.number('sent')} sent\n"
     return text
 
 
-def travelled(members: Members) -> tuple[bool, bool, str]:
-    """Of a packet: whether it arrived, and unchanged; and its lines."""
+def travelled(members: Members) -> tuple[bool, bool, bool, str]:
+    """Of a packet: whether it arrived, and unchanged, or was answered as an Echo Request; and its lines."""
     with members as m:
         text = f"packet {m.number('number')}: {packet(m.object('in'))}\n"
         for each in m.objects("stops"):
@@ -373,26 +381,30 @@ def travelled(members: Members) -> tuple[bool, bool, str]:
                 stop, number = s.text("stop"), s.may("number", int)
                 text += f"  {stop}{'' if number is None else f' {number}'}: {answered(s)}\n"
         if not m.flag("arrived"):
-            return False, False, text
+            echo = bool(m.may("echo_answered", bool))
+            expect(f": {ECHO_ANSWERED}: " in text, echo, "echo_answered")
+            return False, False, echo, text
         unchanged, differing = m.flag("unchanged"), m.texts("differing")
         expect(unchanged, not differing, "unchanged")
         text += f"  arrived with the {ARRIVED} {m.number('inner_octets')} inner octets that went in\n" if unchanged else \
             f"  arrived, but not as it went in: {', '.join(differing)}\n"
-        return True, unchanged, text
+        return True, unchanged, False, text
 
 
 def trip(m: Members, options: dict[str, list[str]], _: str) -> str:
     near, vias, far = stops(options)
     counts, lines = way(m.object("tables"), near, vias, far, False)
     packets = [travelled(each) for each in m.objects("packets")]
-    text = f"tables: {counts[0]} of {counts[1]} near entries and rules fit\n{lines}" + "".join(lines for _, _, lines in packets)
+    text = f"tables: {counts[0]} of {counts[1]} near entries and rules fit\n{lines}" + "".join(p[3] for p in packets)
     if m.flag("broken_off"):
         return text
     lines, found, _ = capture(m, options[""][0])
     expect(found, len(packets), "ip_packets")
-    sums = [m.number("arrived"), m.number("unchanged")]
-    expect(sums, [sum(p[0] for p in packets), sum(p[1] for p in packets)], "arrived, unchanged")
-    return f"{text}{lines}{sums[0]} of {found} packets arrived, {sums[1]} of them with the {ARRIVED} inner octets that went in\n"
+    sums = [m.number("arrived"), m.number("unchanged"), m.number("echo_answered")]
+    expect(sums, [sum(p[i] for p in packets) for i in range(3)], "arrived, unchanged, echo_answered")
+    lines += f"{sums[2]:8}  {ECHO_ANSWERED}\n" if sums[2] else ""
+    return f"{text}{lines}{sums[0]} of {found - sums[2]} {'other ' if sums[2] else ''}packets arrived, {sums[1]} of them with the {ARRIVED} " \
+           "inner octets that went in\n"
 
 
 COUNTED = ["seen", "new", "repeated", "late", "lost"]

@@ -101,6 +101,13 @@ all_complained <<END
 kawsarpa: $work/reasons.pcap: packet 39 is snapped, 109 octets of 110: it is left out
 END
 
+# an Echo Request is no G-PDU here, whether it would be answered or refused
+run 0 loss "$work/echo.pcap"
+printed "not counted 9 of 9 IP packets:"
+printed "       1     no S: G-PDUs without a sequence number"
+printed "       1  10 bad GTP-U: cut short, not version 1, GTP', or its length is wrong"
+printed "       7  11 not a G-PDU: Echo, End Marker, Error Indication and so on"
+
 # both directions under one TEID: 1, 5000, 2, 5001, 3, 5002
 run 0 loss "$work/both.pcap"
 printed "0x00000001     1    5002        6        4        0        2     4998  99.9200"
@@ -130,11 +137,11 @@ printed "frames 6: IP packets 0, not IP 6, snapped 0; padding cut 0"
 run 0 loss "$work/snapped.pcap"
 printed "unreadable 7 (snapped, 2, 3, 5, 9 and 10): a number in such a packet is not offered, and counts as lost in its row"
 
-# a gateway does not carry sequence numbers: behind the far one there are none
+# a gateway does not carry sequence numbers: behind the far one there are none; the Echo Request is answered
 for name in office gate mast crane; do
     run 0 compile "$yard/$name.yaml" -o "$work/$name"
 done
-run 1 trip --near "$work/crane" --via "$work/mast" --via "$work/gate" --far "$work/office" "$work/numbered.pcap" -o "$work/arrived.pcap"
+run 0 trip --near "$work/crane" --via "$work/mast" --via "$work/gate" --far "$work/office" "$work/numbered.pcap" -o "$work/arrived.pcap"
 run 0 loss "$work/arrived.pcap"
 printed "not counted 17 of 17 IP packets:"
 printed "      17     no S: G-PDUs without a sequence number"

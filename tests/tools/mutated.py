@@ -4,7 +4,8 @@ for each link type over PACKETS packets mutated in sound ones.
 TOOL is best built with the sanitizers. OFFICE to CRANE are the yard's tables, EVERYWHERE one that leads every address to End.M.GTP6.D or to
 a rule, CAPTURES a directory that captures.py and the yard's make-capture.py have filled. Every run has to end with an exit code of the
 list, quietly, and to leave its output exactly when it says so: after a failure only where the capture is cut.
-What arrives is as it went in, since the yard's tables fit. What loss does not count has no S, or translate refuses it by EVERYWHERE.
+What arrives is as it went in, since the yard's tables fit. What loss does not count has no S, is an Echo Request, or translate refuses it
+by EVERYWHERE.
 """
 
 import random
@@ -17,7 +18,8 @@ from pathlib import Path
 
 LINKS = [1, 12, 14, 101, 113, 228, 229, 276]
 SEEDS = ["same-ethernet.pcap", "same-qinq.pcap", "same-cooked.pcap", "same-cooked-v2.pcap", "same-raw.pcap", "same-big-endian.pcap",
-         "same-nanoseconds.pcap", "same-pcapng.pcap", "same-pcapng-raw.pcap", "snapped.pcap", "not-ip.pcap", "numbered.pcap"]
+         "same-nanoseconds.pcap", "same-pcapng.pcap", "same-pcapng-raw.pcap", "snapped.pcap", "not-ip.pcap", "numbered.pcap",
+         "echo.pcap"]
 TELLING = [0, 1, 2, 3, 4, 8, 16, 17, 20, 40, 41, 43, 60, 64, 127, 128, 143, 254, 255]
 
 
@@ -75,8 +77,11 @@ def run(arguments: list[str], codes: list[int], out: Path) -> tuple[str, str]:
 
 
 def refusals(printed: str) -> dict[int, int]:
-    """The answers 2 to 11 with their counts."""
-    counts = {int(number): int(count) for count, number in re.findall(r"^ *([0-9]+)  ([ 0-9][0-9]) ", printed, re.MULTILINE)}
+    """The answers 2 to 11 with their counts; Echo Requests, answered or refused with 17, are among those that are no G-PDU."""
+    counts: dict[int, int] = {}
+    for count, answer, name in re.findall(r"^ *([0-9]+)  ([ 0-9][0-9]) (.*)", printed, re.MULTILINE):
+        number = 11 if int(answer) == 17 or name == "Echo Request answered" else int(answer)
+        counts[number] = counts.get(number, 0) + int(count)
     return {number: count for number, count in counts.items() if 2 <= number <= 11}
 
 
@@ -96,7 +101,7 @@ def main() -> None:
     captures, seed, count, drawn = Path(sys.argv[7]), int(sys.argv[8]), int(sys.argv[9]), int(sys.argv[10])
     draw = random.Random(seed)
     seeds = [(captures / name).read_bytes() for name in SEEDS]
-    packets = frames_of((captures / "sent.expected").read_bytes()) + frames_of((captures / "same-raw.pcap").read_bytes())
+    packets = [frame for name in ["sent.expected", "same-raw.pcap", "echo.pcap"] for frame in frames_of((captures / name).read_bytes())]
     numbered = frames_of((captures / "numbered.pcap").read_bytes())
     packets += [frame[14:] for frame in numbered]
     framed = numbered + [frame for name in SEEDS[:4] for frame in frames_of((captures / name).read_bytes())]
