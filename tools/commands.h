@@ -4,7 +4,8 @@
 
 enum {
     EXIT_DONE = 0,
-    EXIT_INPUT = 1, /* the input is bad; check: the table is not sound; match: one does not fit; trip: one did not arrive, or changed */
+    EXIT_INPUT = 1, /* the input is bad; check: the table is not sound; match: one does not fit; trip: one did not arrive, or changed;
+                       echo: no response */
     EXIT_USAGE = 2, /* wrong options or arguments; an output that is an input */
     EXIT_SYSTEM = 3 /* the system failed: cannot open, read or write */
 };
@@ -18,5 +19,6 @@ int command_explain(int argc, char **argv);
 int command_translate(int argc, char **argv);
 int command_trip(int argc, char **argv);
 int command_loss(int argc, char **argv);
+int command_echo(int argc, char **argv);
 
 #endif

@@ -134,6 +134,12 @@ void json_percent(struct json *json, const char *name, double percent)
     fprintf(json->to, "%.4f", percent);
 }
 
+void json_milliseconds(struct json *json, const char *name, double milliseconds)
+{
+    print_name(json, name);
+    fprintf(json->to, "%.3f", milliseconds);
+}
+
 void json_flag(struct json *json, const char *name, bool flag)
 {
     print_name(json, name);

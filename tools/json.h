@@ -34,6 +34,7 @@ void json_array(struct json *json, const char *name);
 void json_number(struct json *json, const char *name, uint64_t number);
 void json_signed(struct json *json, const char *name, int number);
 void json_percent(struct json *json, const char *name, double percent);
+void json_milliseconds(struct json *json, const char *name, double milliseconds);
 void json_flag(struct json *json, const char *name, bool flag);
 
 /* An octet that is no part of valid UTF-8 is written as U+FFFD. */

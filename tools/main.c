@@ -26,6 +26,7 @@ static const struct command commands[] = {
     {"translate", "send the packets of a capture through a table", command_translate},
     {"trip", "send the packets of a capture through every stop of a trip", command_trip},
     {"loss", "count the lost sequence numbers of each TEID in a capture", command_loss},
+    {"echo", "send GTP-U Echo Requests to a gateway or its peers, as ping does", command_echo},
 };
 
 enum { COMMANDS = sizeof commands / sizeof commands[0] };
@@ -84,7 +85,7 @@ static const char help_text[] =
     "\v`kawsarpa COMMAND --help' says more. FILE may be `-', standard input or output.\n"
     "\n"
     "Exit codes: 0 done; 1 the input is bad (check: the table is not sound; match: tables do not fit; trip: a packet did not "
-    "arrive, or arrived changed); 2 wrong usage; 3 the system failed: cannot open, read or write.";
+    "arrive, or arrived changed; echo: no response was received); 2 wrong usage; 3 the system failed: cannot open, read or write.";
 
 static const struct argp argp = {NULL, parse, "COMMAND [ARGUMENT...]", help_text, shared_options, help, NULL};
 
