@@ -167,6 +167,7 @@ tool-test: tool target/tools/kawsarpa-flipped second
 	tests/tools/safety.sh target/tools/kawsarpa-asan
 	tests/tools/loss.sh target/tools/kawsarpa-asan
 	tests/tools/match.sh target/tools/kawsarpa-asan
+	tests/tools/echo.sh target/tools/kawsarpa-asan
 	tests/tools/json.sh target/tools/kawsarpa-asan target/tools/kawsarpa-flipped
 	python3 docs/trip.py | cmp - docs/trip.svg
 

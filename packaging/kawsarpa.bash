@@ -11,15 +11,16 @@ _kawsarpa_options() { # COMMAND
     translate) echo --table --trace --json -q --quiet ;;
     trip) echo --near --via --far -o --output --json -q --quiet ;;
     loss) echo --csv --json ;;
+    echo) echo -4 --ipv4 -6 --ipv6 -c --count --first -i --interval -I --source --json --port -q --quiet --source-port -W --timeout ;;
     esac
     echo --help --usage --version
 }
 
-# What stands behind an option: a file, a number, or nothing of its own.
+# What stands behind an option: a file, something that is not completed, or nothing of its own.
 _kawsarpa_value() { # OPTION
     case $1 in
     -o | --output | --near | --via | --far | --table) echo file ;;
-    -i | --inner) echo number ;;
+    -i | --inner | -c | --count | --first | --interval | -I | --source | --port | --source-port | -W | --timeout) echo other ;;
     esac
 }
 
@@ -55,13 +56,13 @@ _kawsarpa() {
     value=$(_kawsarpa_value "$before")
     if [[ $value == file ]]; then
         _kawsarpa_files "$word"
-    elif [[ $value == number ]]; then
+    elif [[ $value == other ]]; then
         return
     elif [[ $word == -* || $command == match ]]; then
         _kawsarpa_words "$(_kawsarpa_options "$command")" "$word"
     elif [[ -z $command ]]; then
-        _kawsarpa_words 'compile show check match explain translate trip loss' "$word"
-    elif [[ $command != explain ]]; then # which takes a number
+        _kawsarpa_words 'compile show check match explain translate trip loss echo' "$word"
+    elif [[ $command != explain && $command != echo ]]; then # which take a number, and an address
         _kawsarpa_files "$word"
     fi
 }

@@ -55,7 +55,7 @@ for command in $commands; do
     offers "$(help_options "$tool" "$command" | words)" "$command" -
     while read -r option; do
         name=${option##*, }
-        offers "${name%%=*}" "$command" "${name%%=*}"
+        offers "$(help_options "$tool" "$command" | words | grep -e "^${name%%=*}")" "$command" "${name%%=*}"
         case $option in
         *=TABLE | *=OUT.pcap) # a file behind the long name, behind = and behind the short name
             offers "$files" "$command" "${name%%=*}" ''
@@ -65,8 +65,9 @@ for command in $commands; do
             [[ $option != -?,* ]] || offers "$files" "$command" "${option%%,*}" ''
             values=$((values + 1))
             ;;
-        *=OCTETS)
+        *=OCTETS | *=NUMBER | *=SECONDS | *=PORT | *=ADDRESS)
             offers '' "$command" "${name%%=*}" ''
+            [[ $option != -?,* ]] || offers '' "$command" "${option%%,*}" ''
             values=$((values + 1))
             ;;
         *=*) fail "$command: nothing is known of the value of $option" ;;
@@ -75,7 +76,7 @@ for command in $commands; do
 done
 [ "$values" -gt 1 ] || fail "no options with values in the help"
 
-### files and numbers where there is no option
+### files, numbers and addresses where there is no option
 
 for command in compile show check translate trip loss; do
     offers "$files" "$command" ''
@@ -88,5 +89,7 @@ offers "$(help_options "$tool" match | words)" match ''
 offers "$(help_options "$tool" match | words)" match --near a ''
 offers '' explain ''
 offers '' explain --match ''
+offers '' echo ''
+offers '' echo -c 3 ''
 
 echo "completion.sh: all $checks checks hold"

@@ -60,10 +60,27 @@ for command in "${commands[@]}"; do
     same "kawsarpa(1): not the options of $command" "$(help_own_options "$tool" "$command")" "$(page_options "$command")"
 done
 
-### kawsarpa(1): its examples, in a directory with the tables and captures of the yard
+### kawsarpa(1): its examples, in a directory with the tables and captures of the yard; and for echo with a peer that answers
 
+python3 -B "$top/tests/tools/responder.py" 127.0.0.1 "$work/port" good &
+responder=$!
+trap 'kill $responder 2>/dev/null || true; rm -rf "$work"' EXIT
+for ((i = 0; i < 500; i++)); do
+    [ ! -e "$work/port" ] || break
+    sleep 0.02
+done
 mkdir "$work/yard" "$work/bin"
-ln -s "$tool" "$work/bin/kawsarpa"
+cat >"$work/bin/kawsarpa" <<END
+#!/usr/bin/env bash
+[ "\${1-}" != echo ] || set -- "\$@" --port $(cat "$work/port")
+exec "$tool" "\$@"
+END
+chmod +x "$work/bin/kawsarpa"
+
+# What differs from run to run: ports and times.
+steady() {
+    sed -E 's/ port [0-9]+/ port P/g; s/[0-9]+\.[0-9]{3} ms$/T ms/; s|[0-9.]+/[0-9.]+/T ms$|T/T/T ms|'
+}
 cp "$top"/examples/yard/*.yaml "$work/yard"
 python3 -B "$top/examples/yard/make-capture.py" "$work/yard"
 for name in office gate mast crane; do
@@ -78,7 +95,7 @@ while read -r line; do
     echo "\$ $line"
     (cd "$work/yard" && PATH=$work/bin:$PATH bash -c "$line")
 done < <(sed -n 's/^\$ //p' "$work/shown") >"$work/printed" 2>&1
-same "kawsarpa(1): examples print something else" "$(cat "$work/shown")" "$(cat "$work/printed")"
+same "kawsarpa(1): examples print something else" "$(steady <"$work/shown")" "$(steady <"$work/printed")"
 
 ### kawsarpa(3): what the header has, no more and no fewer
 

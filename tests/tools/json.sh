@@ -275,7 +275,8 @@ wait $matching || fail "match.sh, with --json beside each run: $(cat matched/out
 
 cat names.match >>names
 tr ' ' '\n' <names | sort -u >seen
-sed -n '/^\.Sh JSON$/,/^\.Sh EX/s/^\.It Ic //p' "$here/../../man/kawsarpa.1" | tr -d , | tr -s ' ' '\n' | sort -u >listed
+sed -n '/^\.Sh JSON$/,/^\.Sh EX/{/^\.Cm echo :$/,/^\.El$/d; s/^\.It Ic //p}' "$here/../../man/kawsarpa.1" |
+    tr -d , | tr -s ' ' '\n' | sort -u >listed # those of echo are in echo.sh
 diff listed seen >&2 || fail "kawsarpa(1) lists other members than are printed"
 
 # the field guide's examples print what they show

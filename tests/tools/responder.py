@@ -13,7 +13,7 @@ import time
 from pathlib import Path
 
 UDP_NO_CHECK6_TX = 101
-LATE = 0.15  # seconds
+LATE = 0.5  # seconds
 
 
 def message(number: int, first: int = 0x32, kind: int = 2, teid: int = 0, rest: str = "0000 0e00", longer: int = 0) -> bytes:
