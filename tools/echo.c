@@ -224,13 +224,15 @@ static int echo(struct run *run, const struct arguments *arguments)
     return run->ledger.received > 0 ? EXIT_DONE : EXIT_INPUT;
 }
 
-/* Seconds with up to nine digits behind the point. */
+enum { SECONDS_ROOM = 15 };
+
+/* Seconds in digits, with a point among them or none: no sign, no exponent. */
 static int64_t read_seconds(struct argp_state *state, const char *what, const char *text, int64_t least, int64_t most)
 {
     const size_t length = strlen(text);
-    const bool digits = strspn(text, "0123456789.") == length && strpbrk(text, "0123456789") != NULL &&
-                        strchr(text, '.') == strrchr(text, '.');
-    const double seconds = digits && length <= 15 ? strtod(text, NULL) : -1;
+    const bool digits = strspn(text, "0123456789.") == length && strpbrk(text, "0123456789") != NULL;
+    const bool one_point = strchr(text, '.') == strrchr(text, '.');
+    const double seconds = digits && one_point && length <= SECONDS_ROOM ? strtod(text, NULL) : -1;
     const int64_t nanoseconds = seconds * 1e9 < (double)most + 1 ? (int64_t)(seconds * 1e9 + 0.5) : -1;
     if (nanoseconds < least || nanoseconds > most)
         argp_error(state, "%s is %g to %g seconds, not %s", what, (double)least / 1e9, (double)most / 1e9, text);
@@ -330,9 +332,9 @@ static const struct argp_option option_list[] = {
 };
 
 static const char words[] =
-    "Sends GTP-U Echo Requests to an address, as ping does, and prints each Echo Response with its time. ADDRESS is that of a base station, "
-    "a UPF or a gateway, or its name. An Echo Request has S set, TEID 0, a sequence number of its own (behind 65535 comes 0), and no "
-    "element. Ctrl-C ends the run; a summary follows."
+    "Sends GTP-U Echo Requests to an address, as ping does, and prints each Echo Response with its time. ADDRESS is that of a base "
+    "station, a UPF or a gateway, or its name. An Echo Request has S set, TEID 0, a sequence number of its own (behind 65535 comes 0), and "
+    "no element. Ctrl-C ends the run; a summary follows."
     "\vOnly what comes from that address and port counts, and only a well-formed Echo Response with a number that was sent: other things "
     "are told with what is wrong. A response that comes after the timeout is told as late; its request stays lost. What ICMP says of a "
     "request, such as that the port is closed, is told in its place.\n"

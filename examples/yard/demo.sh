@@ -74,3 +74,6 @@ echo "arrived.pcap and again.pcap are equal: 3 packets, $(stat -c %s again.pcap)
 
 title "What was lost between radio and gateway, for a radio that numbers its packets: a gap of three, a repeat, one late, and past 65,535"
 step 0 kawsarpa loss numbered.pcap
+
+title "What the gateway on the crane does with them: the radio's Echo Request is answered, all others are sent on"
+step 0 kawsarpa translate --table crane numbered.pcap left-crane.pcap

@@ -368,11 +368,15 @@ for number in {0..17} 25 26; do
     checks=$((checks + 1))
 done
 
-# the demo, and what README.md shows of it
+# the demo, and what README.md and its own show of it
 "$yard/demo.sh" "$tool" >"$work/stdout" 2>"$work/stderr" || fail "the demo failed"
 while IFS= read -r line; do
     [ "$line" = "..." ] || printed "$line"
-done < <(sed -n '/^    \$ kawsarpa trip/,/^$/s/^    //p' "$here/../../README.md")
+done < <(sed -n '/^    \$ kawsarpa trip/,/^$/s/^    //p' "$here/../../README.md"
+    sed -n '/^    \$ kawsarpa translate/,/^$/s/^    //p' "$yard/README.md")
+run 0 trip "${uplink[@]}" "$work/numbered.pcap"
+sed -n '/^    \$ kawsarpa trip.*grep Echo$/,/^$/{/^    \$/d; s/^    //p}' "$here/../../docs/FIELD-GUIDE.md" >"$work/shown"
+grep Echo "$work/stdout" | diff "$work/shown" - >&2 || fail "the field guide shows another trip of an Echo Request"
 
 # hostile captures
 cat >"$work/everywhere.yaml" <<'END'

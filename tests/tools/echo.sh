@@ -78,6 +78,7 @@ Echo Requests sent 3, Echo Responses received 3, lost 0 (0.0 %)
 time min/avg/max T/T/T ms
 END
     all_complained </dev/null
+    [ "$address" = ::1 ] || cp "$work/stdout" "$work/example"
 
     # numbers go on with 0; a source of one's own
     told 0 -c 4 -i 0.01 --first 65534 -I "$address" "$address"
@@ -125,6 +126,17 @@ printed "duplicate Echo Response from 127.0.0.1: sequence number 1, Recovery 0, 
 printed "duplicate Echo Response from 127.0.0.1: sequence number 2, Recovery 0, T ms"
 printed "Echo Response from 127.0.0.1: sequence number 3, Recovery 9, T ms"
 printed "Echo Requests sent 4, Echo Responses received 3, lost 1 (25.0 %), duplicate 2"
+
+### what the documents show
+
+sed -i -E 's/ port [0-9]+/ port P/' "$work/example"
+for document in README.md docs/FIELD-GUIDE.md; do
+    sed -n '/^    \$ kawsarpa echo -c 3/,/^$/{/^    \$/d; s/^    //p}' "$here/../../$document" >"$work/shown"
+    settle "$work/shown"
+    sed -i -E 's/ port [0-9]+/ port P/' "$work/shown"
+    diff "$work/shown" "$work/example" >&2 || fail "$document shows another run"
+    checks=$((checks + 1))
+done
 
 ### what is no Echo Response to a request that was sent: told with what is wrong, and not counted
 
@@ -248,7 +260,8 @@ start 127.0.0.1 none
 interrupted 1 INT 1 -W 10
 printed "Echo Requests sent 1, Echo Responses received 0, lost 0, still awaited 1"
 interrupted 1 INT 6 -W 10 --json
-"$python" -c 'import json, sys; o = json.load(sys.stdin); assert o["awaited"] == 1 and not o["broken_off"]' <"$work/stdout" || fail "no object"
+"$python" -c 'import json, sys; o = json.load(sys.stdin); assert o["awaited"] == 1 and not o["broken_off"]' <"$work/stdout" ||
+    fail "no object after SIGINT"
 start 127.0.0.1 good
 env --ignore-signal=INT "$tool" echo --port "$port" -c 5 -i 0.05 127.0.0.1 >"$work/stdout" 2>"$work/stderr" &
 pid=$!

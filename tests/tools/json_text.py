@@ -403,8 +403,9 @@ def trip(m: Members, options: dict[str, list[str]], _: str) -> str:
     sums = [m.number("arrived"), m.number("unchanged"), m.number("echo_answered")]
     expect(sums, [sum(p[i] for p in packets) for i in range(3)], "arrived, unchanged, echo_answered")
     lines += f"{sums[2]:8}  {ECHO_ANSWERED}\n" if sums[2] else ""
-    return f"{text}{lines}{sums[0]} of {found - sums[2]} {'other ' if sums[2] else ''}packets arrived, {sums[1]} of them with the {ARRIVED} " \
-           "inner octets that went in\n"
+    packets_word = "other packets" if sums[2] else "packets"
+    return f"{text}{lines}{sums[0]} of {found - sums[2]} {packets_word} arrived, {sums[1]} of them with the {ARRIVED} inner octets that " \
+           "went in\n"
 
 
 COUNTED = ["seen", "new", "repeated", "late", "lost"]

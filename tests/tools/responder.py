@@ -48,7 +48,8 @@ def responses(behaviour: str, number: int) -> list[tuple[float, bytes]]:
     }
     if behaviour in once:
         return [(0, once[behaviour])]
-    return {"none": [], "elsewhere": [], "late": [(LATE, good)], "twice": [(0, good), (0, good)], "again": [(0, good), (LATE, good)]}[behaviour]
+    several = {"late": [(LATE, good)], "twice": [(0, good), (0, good)], "again": [(0, good), (LATE, good)]}
+    return [] if behaviour in ("none", "elsewhere") else several[behaviour]
 
 
 def main() -> None:
