@@ -58,7 +58,7 @@
  * At D, Di and D4 an Echo Request (TS 29.281, type 1), by which a base station sees whether the path is alive, is answered and not
  * translated: with S set and TEID 0 the call answers 0, and the output is the Echo Response (type 2) with the request's sequence number
  * and the Recovery element 0E 00. Its addresses are those of the request exchanged, its ports 2152 and the request's source port. The
- * caller sends it like any other packet. kawsarpa_is_echo_response tells it from a packet that is forwarded.
+ * caller sends it like any other packet. kawsarpa_is_echo_response tells it from a packet that is sent on.
  *
  * A refusal changes no octet of the output. A packet that is sent changes the first octets of the output, as many as the answer's
  * length says, and no other octet. An output of KAWSARPA_OUT_MAX octets, or of KAWSARPA_GROWTH_MAX more than the packet has, always
@@ -267,8 +267,8 @@ enum {
 };
 
 /*
- * 1 where what a call sent, with answer 0, is an Echo Response of its own, 0 where it is a forwarded packet. That is exact: E6 and E4 alone
- * send UDP (17) beside it, always a G-PDU (255) of 64 octets or more, over IPv4 44; all else that is sent is IPv6 with another next header.
+ * 1 where what a call sent, with answer 0, is an Echo Response of its own, 0 where it is a packet that is sent on. That is exact: beside
+ * it E6 and E4 alone send UDP (17), always a G-PDU (255) of 64 octets or more, over IPv4 44; all else is IPv6 with another next header.
  */
 static inline int kawsarpa_is_echo_response(const uint8_t *sent, size_t length)
 {

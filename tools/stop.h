@@ -29,7 +29,7 @@ struct outcome {
     uint64_t answer;
     const uint8_t *sent; /* NULL after a refusal */
     size_t sent_length;
-    bool echo_answered; /* the packet is an Echo Request, and what is sent the Echo Response; else it is forwarded */
+    bool echo_answered; /* the packet is an Echo Request, and what is sent the Echo Response; else it is sent on */
 };
 
 /* The library's call for a packet of this IP version; what is sent stands in out. */

@@ -101,7 +101,7 @@ static size_t larger(size_t a, size_t b)
     return a > b ? a : b;
 }
 
-/* Echo Requests that were answered are counted apart from what is forwarded. */
+/* Echo Requests that were answered are counted apart from what is sent on. */
 static void count(struct run *run, const struct capture_packet *packet, const struct outcome *outcome)
 {
     if (outcome->echo_answered) {

@@ -203,6 +203,8 @@ def main() -> None:
     write("echo-alone.pcap", pcap(RAW, requests))
     passed = along(yard.ipv6(yard.UPF6, yard.RADIO6, 0xB8, echo_request(9, 5000)), 1, [WAYPOINTS[0], yard.RADIO6])
     write("echo-passed.pcap", pcap(RAW, [(0, passed)]))
+    like = yard.g_pdu(yard.DOWNLINK, 5, 0, 1, bytes.fromhex("4500") + bytes(7) + b"\x02" + bytes(12))  # 22 octets inside, type 2's place
+    write("echo-like.pcap", pcap(RAW, [(0, yard.ipv4(yard.UPF4, yard.RADIO4, 0, like))]))
 
     # what is counted and left out, or refused
     write("empty.pcap", pcap(ETHERNET, []))

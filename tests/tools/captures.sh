@@ -131,7 +131,7 @@ run 0 translate --table "$work/nested" --trace "$work/sent.pcap" "$work/out/pass
 printed "  entry 1 End 2000::/3: sent: IPv6 2001:db8:f::1 > 2001:db8:2::e, traffic class 0xb8, \
 SL 2 then 2001:db8:b:1:1601:203:400:0, 2001:db8:77::9, IPv4 inside, 152 octets"
 
-# Echo Requests: the Echo Responses are sent, and counted apart from what is forwarded
+# Echo Requests: the Echo Responses are sent, and counted apart from what is sent on, also if that is as long and has a 2 in the same place
 run 0 translate --table "$work/office" --trace "$work/echo.pcap" "$work/out/sent.pcap"
 same out/sent.pcap echo-sent.expected
 printed "packet 2: IPv6 2001:db8:a0::1 > 2001:db8:77::9, traffic class 0xb8, Echo Request, TEID 0x00000000, sequence number 7, 60 octets"
@@ -160,6 +160,13 @@ translate 0 echo-alone.pcap
 all_printed <<'END'
 frames 3: IP packets 3, not IP 0, snapped 0; padding cut 0
        3   0 Echo Request answered
+END
+
+run 0 translate --table "$work/nested" "$work/echo-like.pcap" "$work/out/sent.pcap"
+all_printed <<'END'
+frames 1: IP packets 1, not IP 0, snapped 0; padding cut 0
+       1   0 sent
+longest packet: 66 octets in, 62 sent
 END
 
 # standard input and output
