@@ -295,7 +295,7 @@ refused() { # TEXT ARGUMENT...
 }
 refused "127.0.0.1: " -6 127.0.0.1
 refused "::1: " -4 ::1
-refused "255.255.255.255: Permission denied" 255.255.255.255
+refused "255.255.255.255: " 255.255.255.255 # no permission, or no route
 refused "source: Cannot assign requested address" -I 192.0.2.1 127.0.0.1
 refused "source: Address already in use" --source-port "$port" -I 127.0.0.1 127.0.0.1
 refused "127.0.0.1: " -I ::1 127.0.0.1
