@@ -65,6 +65,15 @@ struct g_pdu {
     uint8_t args[ARGS_SIZE];
 };
 
+/* In place of a row: the message is an Echo Request that is to be answered. */
+enum { ANSWER_ECHO = 255 };
+
+/* Row 17. */
+static unsigned int judge_echo(const uint8_t *gtpu)
+{
+    return (gtpu[0] & 2) == 0 || word32(gtpu + 4) != 0 ? KAWSARPA_ANSWER_BAD_ECHO : ANSWER_ECHO;
+}
+
 /* Rows 9 to 13 of a UDP datagram; 0 if none applies. */
 static inline unsigned int read_g_pdu(const uint8_t *udp, size_t size, uint8_t direction, struct g_pdu *g)
 {
@@ -75,7 +84,7 @@ static inline unsigned int read_g_pdu(const uint8_t *udp, size_t size, uint8_t d
         ((gtpu[0] & 7) != 0 && size < UDP_SIZE + GTPU_LONG_SIZE))
         return KAWSARPA_ANSWER_BAD_GTPU;
     if (gtpu[1] != G_PDU)
-        return KAWSARPA_ANSWER_NOT_G_PDU;
+        return gtpu[1] == ECHO_REQUEST ? judge_echo(gtpu) : KAWSARPA_ANSWER_NOT_G_PDU;
     if ((gtpu[0] & 4) == 0 || gtpu[11] == 0)
         return KAWSARPA_ANSWER_BAD_CONTAINER;
     if (gtpu[11] != PDU_SESSION_CONTAINER || size < UDP_SIZE + GTPU_LONG_SIZE + 1 || gtpu[12] == 0)
@@ -144,6 +153,25 @@ static uint64_t at_waypoint(const uint8_t *packet, size_t size, uint8_t *out, si
     return sent(size);
 }
 
+/* The replies to Echo Requests; not expanded in place, so that a G-PDU's way stays as short as it is without them. */
+static __attribute__((noinline)) uint64_t reply6(uint8_t hop_limit, const uint8_t *packet, const uint8_t *udp, uint8_t *out, size_t room)
+{
+    if (room < IPV6_SIZE + ECHO_SIZE)
+        return KAWSARPA_ANSWER_NO_ROOM;
+    put_ipv6(out, traffic_class(packet), ECHO_SIZE, UDP, hop_limit, packet + 24, packet + 8);
+    put_echo(out + IPV6_SIZE, udp);
+    return sent(IPV6_SIZE + ECHO_SIZE);
+}
+
+static __attribute__((noinline)) uint64_t reply4(uint8_t ttl, const uint8_t *packet, const uint8_t *udp, uint8_t *out, size_t room)
+{
+    if (room < IPV4_SIZE + ECHO_SIZE)
+        return KAWSARPA_ANSWER_NO_ROOM;
+    put_ipv4(out, packet[1], IPV4_SIZE + ECHO_SIZE, ttl, packet + 16, packet + 12);
+    put_echo(out + IPV4_SIZE, udp);
+    return sent(IPV4_SIZE + ECHO_SIZE);
+}
+
 /* What D and Di do; with `drop_in` the arriving destination follows the last SID. */
 static inline uint64_t encapsulate(const struct kawsarpa_entry *e, const struct kawsarpa_policy *y, bool drop_in, const uint8_t *packet,
                                    size_t size, uint8_t *out, size_t room)
@@ -160,7 +188,7 @@ static inline uint64_t encapsulate(const struct kawsarpa_entry *e, const struct 
     struct g_pdu g;
     const unsigned int refusal = read_g_pdu(udp, datagram, e->direction, &g);
     if (refusal != 0)
-        return refusal;
+        return refusal == ANSWER_ECHO ? reply6(e->hop_limit, packet, udp, out, room) : refusal;
     const uint8_t *inner = udp + g.inner_at;
     const size_t inner_size = datagram - g.inner_at;
     const uint8_t next = inner_next(e->session_type, inner, inner_size);
@@ -255,7 +283,7 @@ static uint64_t at_d4(const struct kawsarpa_rule *r, const uint8_t *packet, size
     struct g_pdu g;
     const unsigned int refusal = read_g_pdu(udp, datagram, r->direction, &g);
     if (refusal != 0)
-        return refusal;
+        return refusal == ANSWER_ECHO ? reply4(r->hop_limit, packet, udp, out, room) : refusal;
     const uint8_t *inner = udp + g.inner_at;
     const size_t inner_size = datagram - g.inner_at;
     const uint8_t next = inner_next(r->session_type, inner, inner_size);

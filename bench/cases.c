@@ -3,14 +3,16 @@
 #include "formats.h"
 
 const struct kind kinds[] = {
-    {"waypoint", false, KAWSARPA_BEHAVIOUR_END, 128, 0},
-    {"D, 1 SID", false, KAWSARPA_BEHAVIOUR_END_M_GTP6_D, 64, 1},
-    {"D, 3 SIDs", false, KAWSARPA_BEHAVIOUR_END_M_GTP6_D, 64, 3},
-    {"Di, 3 SIDs", false, KAWSARPA_BEHAVIOUR_END_M_GTP6_D_DI, 64, 3},
-    {"D4, 0 waypoints", true, 0, 24, 0},
-    {"D4, 2 waypoints", true, 0, 24, 2},
-    {"E6", false, KAWSARPA_BEHAVIOUR_END_M_GTP6_E, 64, 0},
-    {"E4", false, KAWSARPA_BEHAVIOUR_END_M_GTP4_E, 48, 0},
+    {"waypoint", false, KAWSARPA_BEHAVIOUR_END, 128, 0, false},
+    {"D, 1 SID", false, KAWSARPA_BEHAVIOUR_END_M_GTP6_D, 64, 1, false},
+    {"D, 3 SIDs", false, KAWSARPA_BEHAVIOUR_END_M_GTP6_D, 64, 3, false},
+    {"Di, 3 SIDs", false, KAWSARPA_BEHAVIOUR_END_M_GTP6_D_DI, 64, 3, false},
+    {"D4, 0 waypoints", true, 0, 24, 0, false},
+    {"D4, 2 waypoints", true, 0, 24, 2, false},
+    {"E6", false, KAWSARPA_BEHAVIOUR_END_M_GTP6_E, 64, 0, false},
+    {"E4", false, KAWSARPA_BEHAVIOUR_END_M_GTP4_E, 48, 0, false},
+    {"D, Echo", false, KAWSARPA_BEHAVIOUR_END_M_GTP6_D, 64, 1, true},
+    {"D4, Echo", true, 0, 24, 0, true},
 };
 const unsigned int kind_count = sizeof kinds / sizeof kinds[0];
 
@@ -124,7 +126,7 @@ void make_full_table(bool shuffled, struct table *t)
     struct kawsarpa_policy *y;
     lay_out(t, KAWSARPA_ENTRIES_MAX, KAWSARPA_RULES_MAX, KAWSARPA_POLICIES_MAX, &e, &r, &y);
     for (unsigned int i = 0, k = 0; i < KAWSARPA_ENTRIES_MAX; i++, k = (k + 1) % kind_count) {
-        while (kinds[k].ipv4)
+        while (kinds[k].ipv4 || kinds[k].echo)
             k = (k + 1) % kind_count;
         struct kawsarpa_entry *entry = &e[placed(i, KAWSARPA_ENTRIES_MAX, shuffled)];
         set_entry(entry, kinds[k].behaviour, kinds[k].prefix_length, i);
@@ -149,6 +151,26 @@ static void put_g_pdu(uint8_t *udp, unsigned int number, size_t inner)
     put_datagram(udp, &e, args, inner);
 }
 
+/* An Echo Request of `size` octets with its UDP header; what follows the twelve octets of the message is not examined. */
+static void put_echo_request(uint8_t *udp, unsigned int number, size_t size)
+{
+    static const uint8_t fixed[UDP_SIZE + GTPU_LONG_SIZE] = {[2] = GTPU_PORT >> 8, GTPU_PORT & 0xFF, [8] = 0x32, ECHO_REQUEST};
+    memcpy(udp, fixed, sizeof fixed);
+    kawsarpa_put16(udp, (uint16_t)(49152 + number % 16384));
+    kawsarpa_put16(udp + 4, (uint16_t)size);
+    kawsarpa_put16(udp + 10, (uint16_t)(size - UDP_SIZE - GTPU_SIZE));
+    kawsarpa_put16(udp + 16, (uint16_t)number);
+}
+
+/* What a near gateway gets: UDP to the end of the packet. */
+static void put_message(const struct kind *kind, uint8_t *udp, unsigned int number, size_t size)
+{
+    if (kind->echo)
+        put_echo_request(udp, number, size);
+    else
+        put_g_pdu(udp, number, size - DATAGRAM_SIZE);
+}
+
 void make_packet(const struct kind *kind, unsigned int records, unsigned int number, uint8_t *packet, size_t size)
 {
     uint8_t source[ADDRESS], to[ADDRESS];
@@ -160,10 +182,10 @@ void make_packet(const struct kind *kind, unsigned int records, unsigned int num
     if (kind->ipv4) {
         const uint8_t from4[4] = {192, 0, 2, 1}, to4[4] = {10, 0, telling(number % records), (uint8_t)number};
         put_ipv4(packet, 0, size, 64, from4, to4);
-        put_g_pdu(packet + IPV4_SIZE, number, size - IPV4_SIZE - DATAGRAM_SIZE);
+        put_message(kind, packet + IPV4_SIZE, number, size - IPV4_SIZE);
     } else if (uses_policy(kind)) {
         put_ipv6(packet, 0, size - IPV6_SIZE, UDP, 64, source, to);
-        put_g_pdu(packet + IPV6_SIZE, number, size - IPV6_SIZE - DATAGRAM_SIZE);
+        put_message(kind, packet + IPV6_SIZE, number, size - IPV6_SIZE);
     } else if (kind->behaviour == KAWSARPA_BEHAVIOUR_END_M_GTP4_E) {
         /* no SRH, as D4 without waypoints sends */
         to[P + 4] = (uint8_t)(number << 2);
@@ -181,7 +203,7 @@ void make_packet(const struct kind *kind, unsigned int records, unsigned int num
 
 void make_numbered(bool ipv4, uint8_t *packet, size_t size)
 {
-    const struct kind kind = {"", ipv4, KAWSARPA_BEHAVIOUR_END_M_GTP6_D, 64, 1};
+    const struct kind kind = {"", ipv4, KAWSARPA_BEHAVIOUR_END_M_GTP6_D, 64, 1, false};
     uint8_t *gtpu = packet + (ipv4 ? IPV4_SIZE : IPV6_SIZE) + UDP_SIZE;
     make_packet(&kind, 1, 0, packet, size);
     gtpu[0] |= 2;

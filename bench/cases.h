@@ -25,6 +25,7 @@ struct kind {
     uint8_t behaviour;     /* of its entries */
     uint8_t prefix_length; /* of its entries or rules */
     uint8_t segments;      /* SIDs of its policy, waypoints of its rule */
+    bool echo;             /* its packets are Echo Requests */
 };
 
 extern const struct kind kinds[];
@@ -39,7 +40,7 @@ void make_table(const struct kind *kind, unsigned int which, struct table *table
 /* The largest table, all kinds mixed: 64 entries, 16 rules, 16 policies, in ascending order or shuffled. */
 void make_full_table(bool shuffled, struct table *table);
 
-/* A packet of `size` octets that a table of the kind sends on. Its number says which of `records` records it matches, and
+/* A packet of `size` octets that a table of the kind sends on or answers. Its number says which of `records` records it matches, and
    what Args it carries. */
 void make_packet(const struct kind *kind, unsigned int records, unsigned int number, uint8_t *packet, size_t size);
 

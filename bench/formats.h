@@ -6,11 +6,13 @@
 #include "words.h"
 
 enum { IPV6_SIZE = 40, IPV4_SIZE = 20, UDP_SIZE = 8, SRH_SIZE = 8, ADDRESS = 16, ARGS_SIZE = 5 };
-/* GTP-U without and with the four octets more; UDP, GTP-U and a container of one unit. */
-enum { GTPU_SIZE = 8, GTPU_LONG_SIZE = 12, DATAGRAM_SIZE = 24 };
+/* GTP-U without and with the four octets more; UDP, GTP-U and a container of one unit; UDP and an Echo Response. */
+enum { GTPU_SIZE = 8, GTPU_LONG_SIZE = 12, DATAGRAM_SIZE = 24, ECHO_SIZE = 22 };
 /* Next headers. */
 enum { HOP_BY_HOP = 0, IPV4 = 4, UDP = 17, IPV6 = 41, ROUTING = 43, FRAGMENT = 44, DESTINATION_OPTIONS = 60, ETHERNET = 143 };
-enum { ROUTING_TYPE_SRH = 4, GTPU_PORT = 2152, G_PDU = 255, PDU_SESSION_CONTAINER = 0x85, LENGTH_MOST = 65535 };
+enum { ROUTING_TYPE_SRH = 4, GTPU_PORT = 2152, PDU_SESSION_CONTAINER = 0x85, RECOVERY = 14, LENGTH_MOST = 65535 };
+/* GTP-U messages. */
+enum { ECHO_REQUEST = 1, ECHO_RESPONSE = 2, G_PDU = 255 };
 
 static inline void put_ipv6(uint8_t *out, uint8_t class, size_t payload, uint8_t next, uint8_t hop_limit, const uint8_t *source,
                             const uint8_t *to)
@@ -54,6 +56,16 @@ static inline void put_datagram(uint8_t *udp, const struct kawsarpa_entry *e, co
     memcpy(udp + 12, args + 1, 4);
     udp[21] = (uint8_t)(e->direction << 4);
     udp[22] = (uint8_t)(args[0] >> 2 | reflective);
+}
+
+/* The reply to an Echo Request. */
+static inline void put_echo(uint8_t *udp, const uint8_t *request)
+{
+    static const uint8_t fixed[ECHO_SIZE] = {GTPU_PORT >> 8, GTPU_PORT & 0xFF, [5] = ECHO_SIZE, [8] = 0x32,
+                                             ECHO_RESPONSE,  [11] = 6,         [20] = RECOVERY};
+    memcpy(udp, fixed, sizeof fixed);
+    memcpy(udp + 2, request, 2);
+    memcpy(udp + 16, request + 16, 2);
 }
 
 /* The ones' complement sum of an IPv4 header without options (RFC 1071). */

@@ -1,13 +1,14 @@
 -- A call at a behaviour, from the behaviour's plan: what the rows say, where the arriving octets follow, and the head in front of them.
 use mathlib.Core.Path.{_≡_, sym, ap, _∙_}
-use mathlib.Core.List.{List}
+use mathlib.Core.List.{List, _++_}
 use Prim.Native.Nat.{ℕ, _≤_, _<_}
 use lib.ListN.{length}
-use Rattle.rules.specs.Answer.{verdict, Outcome, Sent, Refused, settle}
+use Rattle.rules.specs.Answer.{Row, verdict, Outcome, Sent, Refused, unless, settle}
 use Rattle.rules.specs.Plan.{Plan, sentBy, carryOut}
 use Rattle.rules.specs.declared.Refusal.{Refusal}
 use Rattle.rules.specs.declared.Verdict.{Verdict}
 use Rattle.rules.specs.declared.Verdict.the-variants.{Pass, Refuse}
+use Rattle.rules.proofs.Judging.{unless-append}
 use Rattle.octets.specs.Run.{Run}
 use Rattle.answer.specs.declared.Answer.{Answer}
 use Rattle.answer.specs.Answered.{answerOf, Answered, Placed}
@@ -42,12 +43,14 @@ module _ (plan : Plan) (p : List ℕ) (o : Outcome) (is : carryOut plan p ≡ o)
     pub plan-sent : a .number ≡ 0 → {b″ : List ℕ} → Run b′ 0 before head b″ → Answered (settle (length b) o) b a b″
     plan-sent n {b″} w = answered-as _ _ _ _ _ passed (placed-sent before place p b b′ a r head n b″ w)
 
--- a plan that another function has carried out: it sent what the plan sends
-pub plan-replied : (plan : Plan) (p : List ℕ) (o : Outcome) (wanted : List ℕ) → carryOut plan p ≡ o → verdict (plan .rows) ≡ Pass
-    → sentBy (plan .head) (plan .place) p ≡ wanted → {b : List ℕ} {a : Answer} {b′ : List ℕ}
-    → Answered (settle (length b) (Sent wanted)) b a b′ → Answered (settle (length b) o) b a b′
-plan-replied plan p o wanted is pass whole {b} h =
+-- a plan that another function carries out from some of its rows on, where those in front pass
+pub plan-replied : (plan : Plan) (p : List ℕ) (o : Outcome) (front rest : List Row) (wanted : List ℕ) → carryOut plan p ≡ o
+    → plan .rows ≡ front ++ rest → verdict front ≡ Pass → sentBy (plan .head) (plan .place) p ≡ wanted
+    → {b : List ℕ} {a : Answer} {b′ : List ℕ}
+    → Answered (settle (length b) (unless rest (Sent wanted))) b a b′ → Answered (settle (length b) o) b a b′
+plan-replied plan p o front rest wanted is joined pass whole {b} h =
+    let made = Sent (sentBy (plan .head) (plan .place) p) in
     answered-as _ _ _ _ _
-    (ap (λ (x : List ℕ). settle (length b) (Sent x)) (sym whole)
-    ∙ sym (pass-settles (length b) (plan .rows) _ pass)
-    ∙ ap (settle (length b)) is) h
+    (ap (λ (x : List ℕ). settle (length b) (unless rest (Sent x))) (sym whole)
+    ∙ sym (pass-settles (length b) front (unless rest made) pass)
+    ∙ ap (settle (length b)) (sym (unless-append front rest made) ∙ ap (λ (rs : List Row). unless rs made) (sym joined) ∙ is)) h

@@ -1,18 +1,21 @@
-// Echo at D, Di and D4 (TS 29.281, 7.2): row 17, and the Echo Response that goes back to the sender of an Echo Request.
+// Echo at D, Di and D4 (TS 29.281, 7.2): row 17, and the Echo Response that goes back to the sender of an Echo Request. All of it is read
+// from the packet again, so that nothing is kept for it where a G-PDU is sent on.
 use answer::Answer;
 use rules::assigned;
 ghost use mathlib.Core.Path.{_≡_};
 ghost use mathlib.Core.List.{[], _++_};
 ghost use Prim.Native.Nat.{_≤_, _<_};
 ghost use lib.ListN.{length, drop};
-ghost use Rattle.rules.specs.Octets.{window, read16};
+ghost use Rattle.rules.specs.Octets.{window, read16, splice};
 ghost use Rattle.rules.specs.Ipv6.{ipv6};
 ghost use Rattle.rules.specs.Ipv4.{ipv4};
 ghost use Rattle.rules.specs.Gtpu.{echoDatagram};
-ghost use Rattle.rules.specs.Answer.{any, verdict, Sent, settle};
+ghost use Rattle.rules.specs.Answer.{any, Sent, settle, unless};
+ghost use Rattle.rules.specs.Datagram.{datagram};
 ghost use Rattle.rules.specs.Echo.{isEcho, badEcho, echoRows, echoAnswer};
 ghost use Rattle.octets.specs.Run.{Run};
 ghost use Rattle.answer.specs.Answered.{Answered};
+ghost use Rattle.echo.specs.Reply.{replyTo6, replyTo4};
 
 // Octets of a reply: UDP and GTP-U, and with the IPv6 header or the IPv4 header before them.
 const DATAGRAM: u8 = 22;
@@ -21,10 +24,14 @@ const REPLY6: usize = 62;
 
 const REPLY4: usize = 42;
 
-// Places of fields in the datagram of a request.
-const SOURCE_PORT: usize = 0;
+// Where fields stand in the datagram of a request.
+const SOURCE_PORT_AT: usize = 0;
 
-const SEQUENCE_NUMBER: usize = 16;
+const FLAGS_AT: usize = 8;
+
+const TEID_AT: usize = 12;
+
+const SEQUENCE_NUMBER_AT: usize = 16;
 
 // Version 1, PT 1, S only.
 const FLAGS: u8 = 0x32;
@@ -37,24 +44,6 @@ pub fn is_echo(g: rules::Datagram) -> bool
     ensures { λ r. ⌜ r ≡ isEcho g ⌝ }
 {
     g.messageType == assigned::ECHO_REQUEST
-}
-
-// Row 17: without S, or with a TEID other than 0.
-fn bad_echo(g: rules::Datagram) -> bool
-    ensures { λ r. ⌜ r ≡ any (badEcho g) ⌝ }
-{
-    let teid = g.teid;
-    (g.flags / 2 % 2 != 1) | ((teid[0] != 0) | ((teid[1] != 0) | ((teid[2] != 0) | (teid[3] != 0))))
-}
-
-// The verdict of row 17.
-pub fn judge(g: rules::Datagram) -> rules::Verdict
-    ensures { λ r. ⌜ r ≡ verdict (echoRows g) ⌝ }
-{
-    if bad_echo(g) {
-        return rules::Verdict::Refuse(rules::Refusal::bad_echo());
-    }
-    rules::Verdict::Pass
 }
 
 // UDP and GTP-U of a reply to a port, with a sequence number.
@@ -87,7 +76,17 @@ fn response(port: u16, number: u16) -> [u8; 22]
     ]
 }
 
-// The 16-bit number at octet i of the datagram that begins at octet `at` of a packet.
+// Row 17, of the message in the datagram that begins at octet `at` of a packet: without S, or with a TEID other than 0.
+fn bad_echo(packet: &[u8], at: usize) -> bool
+    requires { ⌜ at < 65536 ⌝ }
+    ensures { λ r. ⌜ r ≡ any (badEcho (datagram (drop at (now (packet .entry))))) ⌝ }
+{
+    let flags = octets::octet_or_0(packet, at + FLAGS_AT);
+    let teid = octets::window4(packet, at + TEID_AT);
+    (flags / 2 % 2 != 1) | ((teid[0] != 0) | ((teid[1] != 0) | ((teid[2] != 0) | (teid[3] != 0))))
+}
+
+// The 16-bit number at octet i of that datagram.
 fn number_at(packet: &[u8], at: usize, i: usize) -> u16
     requires { ⌜ (at < 65536) × (i < 24) ⌝ }
     ensures { λ r. ⌜ r ≡ read16 (drop at (now (packet .entry))) i ⌝ }
@@ -103,8 +102,8 @@ fn response_to(packet: &[u8], at: usize) -> [u8; 22]
     requires { ⌜ at < 65536 ⌝ }
     ensures { λ r. ⌜ r ≡ echoAnswer (drop at (now (packet .entry))) ⌝ }
 {
-    let port = number_at(packet, at, SOURCE_PORT);
-    let number = number_at(packet, at, SEQUENCE_NUMBER);
+    let port = number_at(packet, at, SOURCE_PORT_AT);
+    let number = number_at(packet, at, SEQUENCE_NUMBER_AT);
     response(port, number)
 }
 
@@ -146,11 +145,11 @@ fn put_reply4(
     octets::copy_to(out, 20, &datagram);
 }
 
-// The reply to the Echo Request in an IPv6 packet, whose datagram begins at octet `at`. Row 16 is asked.
-pub fn reply6(packet: &[u8], at: usize, class: u8, hops: u8, out: &mut [u8]) -> Answer
+// The reply to the Echo Request in an IPv6 packet, whose datagram begins at octet `at`: row 16, then what is sent.
+fn send6(packet: &[u8], at: usize, class: u8, hops: u8, out: &mut [u8]) -> Answer
     requires { ⌜ at < 65536 ⌝ }
-    ensures { λ a. ⌜ Answered (settle (length (now (out .entry))) (Sent (ipv6 class 22 17 hops (window (now (packet .entry)) 24 16)
-        (window (now (packet .entry)) 8 16) (echoAnswer (drop at (now (packet .entry))))))) (now (out .entry)) a (now (out .exit)) ⌝ }
+    ensures { λ a. ⌜ Answered (settle (length (now (out .entry))) (Sent (replyTo6 (now (packet .entry)) at class hops)))
+        (now (out .entry)) a (now (out .exit)) ⌝ }
 {
     let datagram = response_to(packet, at);
     let source = octets::window16(packet, 24);
@@ -162,18 +161,54 @@ pub fn reply6(packet: &[u8], at: usize, class: u8, hops: u8, out: &mut [u8]) -> 
     a
 }
 
-// The same over IPv4.
-pub fn reply4(packet: &[u8], at: usize, tos: u8, ttl: u8, out: &mut [u8]) -> Answer
-    requires { ⌜ at < 65536 ⌝ }
-    ensures { λ a. ⌜ Answered (settle (length (now (out .entry))) (Sent (ipv4 tos 42 ttl (window (now (packet .entry)) 16 4)
-        (window (now (packet .entry)) 12 4) (echoAnswer (drop at (now (packet .entry))))))) (now (out .entry)) a (now (out .exit)) ⌝ }
+// The addresses of an IPv4 packet, exchanged, in their place in out.
+fn exchange4(packet: &[u8], out: &mut [u8])
+    requires { ⌜ (20 ≤ length (now packet)) × (20 ≤ length (now out)) ⌝ }
+    ensures { λ _. ⌜ now (out .exit) ≡ splice (now (out .entry)) 12 (window (now (packet .entry)) 16 4
+        ++ window (now (packet .entry)) 12 4) ⌝ }
+{
+    octets::copy_to(out, 12, &packet[16..20]);
+    octets::copy_to(out, 16, &packet[12..16]);
+}
+
+// The same over IPv4. The addresses are read where they were copied to: read from the packet, octet by octet for the checksum, they would
+// be the lookup's too, for every packet.
+fn send4(packet: &[u8], at: usize, tos: u8, ttl: u8, out: &mut [u8]) -> Answer
+    requires { ⌜ (at < 65536) × (20 ≤ length (now packet)) ⌝ }
+    ensures { λ a. ⌜ Answered (settle (length (now (out .entry))) (Sent (replyTo4 (now (packet .entry)) at tos ttl)))
+        (now (out .entry)) a (now (out .exit)) ⌝ }
 {
     let datagram = response_to(packet, at);
-    let source = octets::window4(packet, 16);
-    let destination = octets::window4(packet, 12);
     let a = answer::send(REPLY4, packet, packet.len(), out);
     if a.number == 0 {
+        exchange4(packet, out);
+        let source = octets::window4(out, 12);
+        let destination = octets::window4(out, 16);
         put_reply4(out, tos, ttl, source, destination, datagram);
     }
     a
+}
+
+// An Echo Request in an IPv6 packet, whose datagram begins at octet `at`: rows 17 and 16, and the reply.
+pub fn reply6(packet: &[u8], at: usize, class: u8, hops: u8, out: &mut [u8]) -> Answer
+    requires { ⌜ at < 65536 ⌝ }
+    ensures { λ a. ⌜ Answered (settle (length (now (out .entry))) (unless (echoRows (datagram (drop at (now (packet .entry)))))
+        (Sent (replyTo6 (now (packet .entry)) at class hops)))) (now (out .entry)) a (now (out .exit)) ⌝ }
+{
+    if bad_echo(packet, at) {
+        return Answer::refused(rules::Refusal::bad_echo());
+    }
+    send6(packet, at, class, hops, out)
+}
+
+// The same over IPv4.
+pub fn reply4(packet: &[u8], at: usize, tos: u8, ttl: u8, out: &mut [u8]) -> Answer
+    requires { ⌜ (at < 65536) × (20 ≤ length (now packet)) ⌝ }
+    ensures { λ a. ⌜ Answered (settle (length (now (out .entry))) (unless (echoRows (datagram (drop at (now (packet .entry)))))
+        (Sent (replyTo4 (now (packet .entry)) at tos ttl)))) (now (out .entry)) a (now (out .exit)) ⌝ }
+{
+    if bad_echo(packet, at) {
+        return Answer::refused(rules::Refusal::bad_echo());
+    }
+    send4(packet, at, tos, ttl, out)
 }

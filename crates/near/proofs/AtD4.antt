@@ -15,11 +15,10 @@ use Rattle.rules.specs.Gtpu as Gtpu
 use Rattle.rules.specs.Table.{addressesAt}
 use Rattle.rules.specs.Args.{Args, withArgs}
 use Rattle.rules.specs.Ipv6.{ipv6}
-use Rattle.rules.specs.Ipv4.{ipv4}
-use Rattle.rules.specs.Answer.{verdict, Sent, Refused, settle}
+use Rattle.rules.specs.Answer.{Row, verdict, Sent, Refused, unless, settle}
 use Rattle.rules.specs.Header4.{header4, WellFormed4}
 use Rattle.rules.specs.Datagram.{datagram, messageRows}
-use Rattle.rules.specs.Echo.{isEcho, echoAnswer, echoReply4}
+use Rattle.rules.specs.Echo.{isEcho, echoRows, echoReply4}
 use Rattle.rules.specs.Session.{innerProtocol}
 use Rattle.rules.specs.Srv6.{pastWaypointsPayload}
 use Rattle.rules.specs.Carried.{carriedBy, carried4, datagramIn4}
@@ -31,6 +30,7 @@ use Rattle.rules.specs.declared.Datagram.{Datagram}
 use Rattle.rules.specs.declared.Refusal.{Refusal}
 use Rattle.rules.specs.declared.Verdict.{Verdict}
 use Rattle.rules.specs.declared.Verdict.the-variants.{Pass, Refuse}
+use Rattle.rules.proofs.Judging.{refused-first}
 use Rattle.rules.proofs.Paths.{addressesAt-length}
 use Rattle.rules.proofs.Plans.{inner-4, all-head, echo4-carried-out, gPdu4-carried-out}
 use Rattle.octets.specs.Run.{Run}
@@ -38,7 +38,9 @@ use Rattle.octets.proofs.Laws.{splice-front, chain, run-as}
 use Rattle.octets.proofs.Windows.{window-part}
 use Rattle.answer.specs.declared.Answer.{Answer}
 use Rattle.answer.specs.Answered.{answerOf, Answered}
+use Rattle.answer.proofs.Settling.{answered-as, answered-refused, refuse-settles}
 use Rattle.answer.proofs.Calling.{Judged, plan-refused, plan-replied}
+use Rattle.echo.specs.Reply.{replyTo4}
 use Rattle.path.proofs.Heads.{head-length}
 use Rattle.path.specs.ByType.{typeRows}
 use Rattle.path.proofs.Judged.{GpduRead, gpdu-place, echo-verdict, gpdu-verdict, gpdu-bounds}
@@ -126,15 +128,16 @@ module _ (r p : List ℕ) (h : Header4) (arrived : WellFormed4 p h) (g : Datagra
     front-here : gtp4Rows h g ≡ gtp4Rows (header4 p) (datagram (datagramIn4 p))
     front-here = λ i. gtp4Rows (arrived .view i) (read .view i)
 
-    -- of an Echo Request
-    echo4-judged : isEcho (datagram (datagramIn4 p)) ≡ true → Judged (echoPlan4 r p) p (length p) 0 v
+    -- of an Echo Request, before row 17
+    abbrev echo-front : List Row
+    echo-front = gtp4Rows (header4 p) (datagram (datagramIn4 p)) ++ messageRows (datagram (datagramIn4 p))
+
+    echo4-front : isEcho (datagram (datagramIn4 p)) ≡ true → v ≡ verdict echo-front
+    echo4-front t = echo-verdict p 20 g place size first read (gtp4Rows h g) (Rule.direction r) (Rule.session r) field v judged t _ front-here
+
+    echo4-rows : echoPlan4 r p .rows ≡ echo-front ++ echoRows (datagram (datagramIn4 p))
     unfolding echoPlan4 rowsEcho4
-    echo4-judged t = record {
-      rows = echo-verdict p 20 g place size first read (gtp4Rows h g) (Rule.direction r) (Rule.session r) field v judged t _ front-here;
-      at = refl;
-      within = λ q. omega arith;
-      fits = λ q. omega arith;
-    }
+    echo4-rows = sym (append-assoc (gtp4Rows (header4 p) (datagram (datagramIn4 p))) _ _)
 
     -- of any other message
     gPdu4-judged : isEcho (datagram (datagramIn4 p)) ≡ false → Judged (gPduPlan4 r p) p place field v
@@ -158,7 +161,11 @@ module _ (r p : List ℕ) (h : Header4) (arrived : WellFormed4 p h) (g : Datagra
     d4-refused ρ b a q k = go (isEcho (datagram (datagramIn4 p))) refl
       where
         go : (echo : Bool) → isEcho (datagram (datagramIn4 p)) ≡ echo → Answered (settle (length b) (atD4 r p)) b a b
-        go true t = plan-refused (echoPlan4 r p) p _ (echo4-carried-out r p t) (echo4-judged t) ρ b a q k
+        go true t =
+            answered-refused _ ρ b a
+            (ap (settle (length b)) (sym (echo4-carried-out r p t))
+            ∙ refuse-settles (length b) (echoPlan4 r p .rows) _ ρ
+            (ap verdict echo4-rows ∙ sym (refused-first echo-front (echoRows (datagram (datagramIn4 p))) v ρ (echo4-front t) q))) k
         go false t = plan-refused (gPduPlan4 r p) p _ (gPdu4-carried-out r p t) (gPdu4-judged t) ρ b a q k
 
     -- from the view: what is sent where the message is no Echo Request
@@ -171,16 +178,17 @@ module _ (r p : List ℕ) (h : Header4) (arrived : WellFormed4 p h) (g : Datagra
     pub other4-carried-out : isEcho g ≡ false → carryOut (gPduPlan4 r p) p ≡ atD4 r p
     other4-carried-out t = gPdu4-carried-out r p (type-here false t)
 
-    -- the reply to an Echo Request
+    -- an Echo Request, from row 17 on
     pub echo4-answered : isEcho g ≡ true → v ≡ Pass → (tos : ℕ) → tos ≡ octet p 1 → {b : List ℕ} {a : Answer} {b′ : List ℕ}
-        → Answered (settle (length b) (Sent (ipv4 tos 42 (Rule.hopLimit r) (window p 16 4) (window p 12 4) (echoAnswer (drop 20 p))))) b a b′
+        → Answered (settle (length b) (unless (echoRows (datagram (drop 20 p))) (Sent (replyTo4 p 20 tos (Rule.hopLimit r))))) b a b′
         → Answered (settle (length b) (atD4 r p)) b a b′
     unfolding echoPlan4 echoReply4
-    echo4-answered t q tos ht =
+    echo4-answered t q tos ht {b} k =
         let is = type-here true t in
-        let reply : echoReply4 r p ≡ ipv4 tos 42 (Rule.hopLimit r) (window p 16 4) (window p 12 4) (echoAnswer (drop 20 p)) =
-        ap (λ (k : ℕ). ipv4 k 42 (Rule.hopLimit r) (window p 16 4) (window p 12 4) (echoAnswer (drop 20 p))) (sym ht) in
-        plan-replied (echoPlan4 r p) p _ _ (echo4-carried-out r p is) (sym (echo4-judged is .rows) ∙ q) (all-head (echoReply4 r p) p ∙ reply)
+        plan-replied (echoPlan4 r p) p _ echo-front (echoRows (datagram (datagramIn4 p))) (echoReply4 r p) (echo4-carried-out r p is)
+        echo4-rows (sym (echo4-front is) ∙ q) (all-head (echoReply4 r p) p)
+        (answered-as _ _ _ _ _
+        (λ i. settle (length b) (unless (echoRows (datagram (drop 20 p))) (Sent (replyTo4 p 20 (ht i) (Rule.hopLimit r))))) k)
 
   -- what is written before the inner packet
   module _ (x : Args) (class : ℕ) (from to source sid : List ℕ)

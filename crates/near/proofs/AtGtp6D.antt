@@ -1,7 +1,7 @@
 -- D and Di from their views: their rows, their head and the place of the inner packet are those of the plan.
 use mathlib.Core.Path.{_≡_, refl, sym, ap, _∙_, subst}
 use mathlib.Core.Bool.{Bool, true, false}
-use mathlib.Core.List.{List, [], _∷_, _++_}
+use mathlib.Core.List.{List, [], _∷_, _++_, append-assoc}
 use Prim.Native.Nat.{ℕ, _+_, _-_, _*_, _≤_, _<_}
 use native.Mathlib.Omega.{arith}
 use lib.ListN.{length, drop, length-append, length-drop}
@@ -11,11 +11,10 @@ use Rattle.rules.specs.Policy as Policy
 use Rattle.rules.specs.Ipv6 as Ipv6
 use Rattle.rules.specs.Gtpu as Gtpu
 use Rattle.rules.specs.Args.{Args}
-use Rattle.rules.specs.Ipv6.{ipv6}
-use Rattle.rules.specs.Answer.{verdict, Sent, Refused, settle}
+use Rattle.rules.specs.Answer.{Row, verdict, Sent, Refused, unless, settle}
 use Rattle.rules.specs.Header.{header}
 use Rattle.rules.specs.Datagram.{datagram, messageRows}
-use Rattle.rules.specs.Echo.{isEcho, echoAnswer, echoReply6}
+use Rattle.rules.specs.Echo.{isEcho, echoRows, echoReply6}
 use Rattle.rules.specs.Session.{innerProtocol}
 use Rattle.rules.specs.Carried.{carriedBy, carried6, datagramIn6}
 use Rattle.rules.specs.Gtp6D.{gtp6Rows, rowsGtp6D, rowsEcho6}
@@ -27,13 +26,16 @@ use Rattle.rules.specs.declared.Refusal.{Refusal}
 use Rattle.rules.specs.declared.Verdict.{Verdict}
 use Rattle.rules.specs.declared.Verdict.the-variants.{Pass, Refuse}
 use Rattle.rules.proofs.Windows.{window-length}
+use Rattle.rules.proofs.Judging.{refused-first}
 use Rattle.rules.proofs.Paths.{addressesAt-length}
 use Rattle.rules.proofs.Sids.{withArgs-length}
 use Rattle.rules.proofs.Messages.{carriedBy-fits}
 use Rattle.rules.proofs.Plans.{tail-length, inner-6, all-head, echo6-carried-out, gPdu6-carried-out}
 use Rattle.answer.specs.declared.Answer.{Answer}
 use Rattle.answer.specs.Answered.{answerOf, Answered}
+use Rattle.answer.proofs.Settling.{answered-as, answered-refused, refuse-settles}
 use Rattle.answer.proofs.Calling.{Judged, plan-refused, plan-replied}
+use Rattle.echo.specs.Reply.{replyTo6}
 use Rattle.path.specs.declared.PathPlan.{PathPlan}
 use Rattle.path.specs.Fits.{Ready, headOf}
 use Rattle.path.proofs.Heads.{head-length}
@@ -80,16 +82,17 @@ module _ (e policy : List ℕ) (tail : ℕ) (p : List ℕ) (h : Header) (asked :
       front-here : gtp6Rows h g ≡ gtp6Rows (header p) (datagram (datagramIn6 p))
       front-here = λ i. gtp6Rows (asked .arrived .view i) (here .view i)
 
-      -- of an Echo Request
-      echo6-judged : isEcho (datagram (datagramIn6 p)) ≡ true → Judged (echoPlan6 e p) p (length p) 0 v
+      -- of an Echo Request, before row 17
+      abbrev echo-front : List Row
+      echo-front = gtp6Rows (header p) (datagram (datagramIn6 p)) ++ messageRows (datagram (datagramIn6 p))
+
+      echo6-front : isEcho (datagram (datagramIn6 p)) ≡ true → v ≡ verdict echo-front
+      echo6-front t = echo-verdict p (header p .upperAt) g place size first here (gtp6Rows h g) (Entry.direction e) (Entry.session e) _ v
+          judged t _ front-here
+
+      echo6-rows : echoPlan6 e p .rows ≡ echo-front ++ echoRows (datagram (datagramIn6 p))
       unfolding echoPlan6 rowsEcho6
-      echo6-judged t = record {
-        rows = echo-verdict p (header p .upperAt) g place size first here (gtp6Rows h g) (Entry.direction e) (Entry.session e) _ v judged t
-            _ front-here;
-        at = refl;
-        within = λ q. omega arith;
-        fits = λ q. omega arith;
-      }
+      echo6-rows = sym (append-assoc (gtp6Rows (header p) (datagram (datagramIn6 p))) _ _)
 
       -- of any other message
       gPdu6-judged : isEcho (datagram (datagramIn6 p)) ≡ false
@@ -115,8 +118,11 @@ module _ (e policy : List ℕ) (tail : ℕ) (p : List ℕ) (h : Header) (asked :
       gtp6D-refused ρ b a q h = go (isEcho (datagram (datagramIn6 p))) refl
         where
           go : (echo : Bool) → isEcho (datagram (datagramIn6 p)) ≡ echo → Answered (settle (length b) (atGtp6D tail e policy p)) b a b
-          go true t = plan-refused (echoPlan6 e p) p _ (echo6-carried-out tail e policy p (asked .one) (asked .two) t) (echo6-judged t) ρ b a
-              q h
+          go true t =
+              answered-refused _ ρ b a
+              (ap (settle (length b)) (sym (echo6-carried-out tail e policy p (asked .one) (asked .two) t))
+              ∙ refuse-settles (length b) (echoPlan6 e p .rows) _ ρ
+              (ap verdict echo6-rows ∙ sym (refused-first echo-front (echoRows (datagram (datagramIn6 p))) v ρ (echo6-front t) q))) h
           go false t = plan-refused (gPduPlan6 tail e policy p) p _ (gPdu6-carried-out tail e policy p (asked .one) (asked .two) t)
               (gPdu6-judged t) ρ b a q h
 
@@ -130,22 +136,21 @@ module _ (e policy : List ℕ) (tail : ℕ) (p : List ℕ) (h : Header) (asked :
       pub other6-carried-out : isEcho g ≡ false → carryOut (gPduPlan6 tail e policy p) p ≡ atGtp6D tail e policy p
       other6-carried-out t = gPdu6-carried-out tail e policy p (asked .one) (asked .two) (type-here false t)
 
-      -- the reply to an Echo Request
-      reply-here : ipv6 (h .trafficClass) 22 17 (Entry.hopLimit e) (window p 24 16) (window p 8 16) (echoAnswer (drop (h .upperAt) p))
-          ≡ echoReply6 e p
-      unfolding echoReply6 header
-      reply-here = λ i. ipv6 (asked .arrived .view i .trafficClass) 22 17 (Entry.hopLimit e) (window p 24 16) (window p 8 16)
-          (echoAnswer (drop (asked .arrived .view i .upperAt) p))
-
+      -- an Echo Request, from row 17 on
       pub echo6-answered : isEcho g ≡ true → v ≡ Pass → {b : List ℕ} {a : Answer} {b′ : List ℕ}
-          → Answered (settle (length b) (Sent (ipv6 (h .trafficClass) 22 17 (Entry.hopLimit e) (window p 24 16) (window p 8 16)
-          (echoAnswer (drop (h .upperAt) p))))) b a b′
+          → Answered (settle (length b) (unless (echoRows (datagram (drop (h .upperAt) p)))
+          (Sent (replyTo6 p (h .upperAt) (h .trafficClass) (Entry.hopLimit e))))) b a b′
           → Answered (settle (length b) (atGtp6D tail e policy p)) b a b′
-      unfolding echoPlan6
-      echo6-answered t q =
+      unfolding echoPlan6 echoReply6 header
+      echo6-answered t q {b} k =
           let is = type-here true t in
-          plan-replied (echoPlan6 e p) p _ _ (echo6-carried-out tail e policy p (asked .one) (asked .two) is)
-          (sym (echo6-judged is .rows) ∙ q) (all-head (echoReply6 e p) p ∙ sym reply-here)
+          let view = asked .arrived .view in
+          plan-replied (echoPlan6 e p) p _ echo-front (echoRows (datagram (datagramIn6 p))) (echoReply6 e p)
+          (echo6-carried-out tail e policy p (asked .one) (asked .two) is) echo6-rows (sym (echo6-front is) ∙ q)
+          (all-head (echoReply6 e p) p)
+          (answered-as _ _ _ _ _
+          (λ i. settle (length b) (unless (echoRows (datagram (drop (view i .upperAt) p)))
+          (Sent (replyTo6 p (view i .upperAt) (view i .trafficClass) (Entry.hopLimit e))))) k)
 
     -- what is written before the inner packet
     module _ (x : Args) (to : List ℕ)

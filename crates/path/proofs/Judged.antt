@@ -1,7 +1,7 @@
 -- A message in a packet, read by its views: what rows from 9 on say of it, and where the inner packet of a G-PDU lies.
 use mathlib.Core.Path.{_≡_, sym, ap, _∙_}
 use mathlib.Core.Bool.{true, false}
-use mathlib.Core.List.{List, _++_}
+use mathlib.Core.List.{List, _++_, append-nil}
 use Prim.Native.Nat.{ℕ, _+_, _-_, _*_, _≤_}
 use native.Mathlib.Nat.{add-zero}
 use lib.ListN.{length, drop, length-drop}
@@ -10,7 +10,7 @@ use borrow.Author.Tests.{not-false}
 use Rattle.rules.specs.Octets.{octet}
 use Rattle.rules.specs.Answer.{Row, given, verdict}
 use Rattle.rules.specs.Datagram.{datagram, messageRows, gPduRows, innerRows, extended}
-use Rattle.rules.specs.Echo.{isEcho, echoRows}
+use Rattle.rules.specs.Echo.{isEcho}
 use Rattle.rules.specs.Plan.{innerAt}
 use Rattle.rules.specs.declared.Datagram.{Datagram}
 use Rattle.rules.specs.declared.Verdict.{Verdict}
@@ -20,8 +20,8 @@ use Rattle.path.specs.ByType.{typeRows}
 
 -- the rows of an Echo Request, and of any other message
 module _ (direction session : ℕ) (g : Datagram) (size first field : ℕ) (v : Verdict) where
-  pub type-echo : isEcho g ≡ true → v ≡ verdict (echoRows g) → v ≡ verdict (typeRows direction session g size first field)
-  unfolding typeRows
+  pub type-echo : isEcho g ≡ true → v ≡ Pass → v ≡ verdict (typeRows direction session g size first field)
+  unfolding typeRows verdict
   type-echo t e = rw t e
 
   pub type-other : isEcho g ≡ false → v ≡ verdict (gPduRows direction g ++ innerRows session size first field)
@@ -45,11 +45,12 @@ module _ (p : List ℕ) (at : ℕ) (g : Datagram) (place size first : ℕ) (r : 
   module _ (front : List Row) (direction session field : ℕ) (v : Verdict)
       (judged : v ≡ verdict (front ++ (messageRows g ++ typeRows direction session g size first field))) where
     -- of an Echo Request, where nothing else is asked
-    pub echo-verdict : isEcho (datagram (drop at p)) ≡ true → (front′ : List Row) → front ≡ front′ → let u = datagram (drop at p) in
-        v ≡ verdict (front′ ++ (messageRows u ++ echoRows u))
+    pub echo-verdict : isEcho (datagram (drop at p)) ≡ true → (front′ : List Row) → front ≡ front′
+        → v ≡ verdict (front′ ++ messageRows (datagram (drop at p)))
     unfolding typeRows
     echo-verdict t front′ ef =
-        judged ∙ (λ i. verdict (ef i ++ (messageRows (r .view i) ++ typeRows direction session (r .view i) size first field))) ∙ rw t
+        judged ∙ (λ i. verdict (ef i ++ (messageRows (r .view i) ++ typeRows direction session (r .view i) size first field)))
+        ∙ rw (t, append-nil (messageRows (datagram (drop at p))))
 
     -- of any other message
     module _ (other : isEcho (datagram (drop at p)) ≡ false) where

@@ -1,5 +1,5 @@
-// What D, Di and D4 ask of a message: rows 9 to 15, or 9, 10 and 17 of an Echo Request, each looked at only where those before it pass; and
-// the next header of the inner packet of a G-PDU.
+// What D, Di and D4 ask of a message: rows 9 to 15, or 9 and 10 of an Echo Request, each looked at only where those before it pass; and the
+// next header of the inner packet of a G-PDU.
 ghost use mathlib.Core.Path.{_≡_};
 ghost use mathlib.Core.List.{[], _∷_, _++_};
 ghost use Rattle.rules.specs.Answer.{row, verdict};
@@ -26,7 +26,7 @@ fn judge_pdu(
     }
 }
 
-// Rows behind row 10, by the type of the message.
+// Rows behind row 10, by the type of the message: none of an Echo Request.
 fn judge_type(
     direction: u8,
     session: u8,
@@ -38,7 +38,7 @@ fn judge_type(
     ensures { λ r. ⌜ r ≡ verdict (typeRows direction session g size first field) ⌝ }
 {
     if echo::is_echo(g) {
-        return echo::judge(g);
+        return rules::Verdict::Pass;
     }
     judge_pdu(direction, session, g, size, first, field)
 }
