@@ -3,6 +3,7 @@
 import struct
 import subprocess
 from pathlib import Path
+from typing import Iterable, NamedTuple
 
 import expect
 import wire
@@ -28,35 +29,49 @@ FIELDS = [
 ]
 
 
+class View(NamedTuple):
+    """The fields that tshark is asked for, and its options."""
+    fields: list[str]
+    options: list[str]
+
+
+# without the option a guess at the payload may name another protocol
+G_PDUS = View(FIELDS, ["-d", f"udp.port=={INNER_PORTS[0]},data"])
+# Of a pair of Echo messages each names the other's frame, which takes two passes. One of two ports is 2152, and without the option the
+# lower one may name another protocol.
+ECHO = View(FIELDS + ["gtp.npdu_number", "gtp.ext_hdr.pdcp_sn", "gtp.recovery", "gtp.ext_id", "gtp.ext_val", "gtp.response_in",
+                      "gtp.response_to"],
+            ["-2", "-d", "udp.port==0-65535,gtp"])
+
+
 def frame(packet: bytes, layer: str) -> bytes:
     """A packet behind the link's header, which names the version that is expected."""
     return wire.ethernet(LINK_TO, LINK_FROM, ETHERTYPES[layer], packet)
 
 
-def decode(frames: list[bytes], work: Path) -> list[dict[str, str]]:
+def decode(frames: list[bytes], work: Path, view: View = G_PDUS) -> list[dict[str, str]]:
     """For each frame the text of each field."""
     capture = work / "packets.pcap"
     with capture.open("wb") as file:
         file.write(struct.pack("<IHHiIII", 0xA1B2C3D4, 2, 4, 0, 0, 1 << 18, LINK_TYPE_ETHERNET))
         for octets in frames:
             file.write(struct.pack("<IIII", 0, 0, len(octets), len(octets)) + octets)
-    shown = read(capture)
+    shown = read(capture, view)
     if len(shown) != len(frames):
         raise RuntimeError(f"tshark showed {len(shown)} packets of {len(frames)}")
     return shown
 
 
-def read(capture: Path) -> list[dict[str, str]]:
+def read(capture: Path, view: View = G_PDUS) -> list[dict[str, str]]:
     """The same of a capture. A field that occurs more than once is a list with commas."""
     command = ["tshark", "-n", "-r", str(capture), "-o", "ip.check_checksum:TRUE", "-o", "udp.check_checksum:TRUE"]
-    command += ["-d", f"udp.port=={INNER_PORTS[0]},data"]  # else a guess at the payload may name another protocol
-    command += ["-T", "fields", "-E", "separator=/t", "-E", "occurrence=a", "-E", "aggregator=,"]
-    for field in FIELDS:
+    command += [*view.options, "-T", "fields", "-E", "separator=/t", "-E", "occurrence=a", "-E", "aggregator=,"]
+    for field in view.fields:
         command += ["-e", field]
     done = subprocess.run(command, stdout=subprocess.PIPE, stderr=subprocess.PIPE, text=True)
     if done.returncode != 0:
         raise RuntimeError(f"tshark ended with {done.returncode}: {done.stderr}")
-    return [dict(zip(FIELDS, line.split("\t"), strict=True)) for line in done.stdout.split("\n")[:-1]]
+    return [dict(zip(view.fields, line.split("\t"), strict=True)) for line in done.stdout.split("\n")[:-1]]
 
 
 def length(pairs: expect.Pairs) -> int:
@@ -65,9 +80,9 @@ def length(pairs: expect.Pairs) -> int:
     return 14 + int(text) + (40 if field == "ipv6.plen" else 0)
 
 
-def texts(pairs: expect.Pairs) -> dict[str, str]:
+def texts(pairs: expect.Pairs, fields: Iterable[str]) -> dict[str, str]:
     """The text that each field must have; a field that no header brings must be empty."""
-    found: dict[str, list[str]] = {field: [] for field in FIELDS}
+    found: dict[str, list[str]] = {field: [] for field in fields}
     link = expect.ethernet(LINK_TO, LINK_FROM, ETHERTYPES[pairs[0][1]])
     for field, text in [("frame.len", str(length(pairs)))] + link + pairs:
         found[field].append(text)
@@ -75,4 +90,4 @@ def texts(pairs: expect.Pairs) -> dict[str, str]:
 
 
 def differences(expected: dict[str, str], shown: dict[str, str]) -> list[str]:
-    return [field for field in FIELDS if shown[field] != expected[field]]
+    return [field for field in expected if shown[field] != expected[field]]

@@ -81,21 +81,25 @@ def udp(source_port: int, destination_port: int, checksum: int, status: str, pay
     return pairs
 
 
-def gtpu(teid: int, length: int, direction: int, qfi: int, reflective: int) -> Pairs:
-    """E alone, one container of one unit."""
-    pairs = layer("gtp") + [
-        ("gtp.flags", "0x34"),
+def message(kind: int, teid: int, flags: int, length: int) -> Pairs:
+    """The first eight octets of a GTP-U message; the flags are those of the low four bits."""
+    return layer("gtp") + [
+        ("gtp.flags", f"0x{0x30 | flags:02x}"),
         ("gtp.flags.version", "1"),
         ("gtp.flags.payload", "1"),
-        ("gtp.flags.reserved", "0"),
-        ("gtp.flags.e", "1"),
-        ("gtp.flags.s", "0"),
-        ("gtp.flags.pn", "0"),
-        ("gtp.message", f"0x{wire.G_PDU:02x}"),
+        ("gtp.flags.reserved", str(flags >> 3)),
+        ("gtp.flags.e", str(flags >> 2 & 1)),
+        ("gtp.flags.s", str(flags >> 1 & 1)),
+        ("gtp.flags.pn", str(flags & 1)),
+        ("gtp.message", f"0x{kind:02x}"),
         ("gtp.length", str(length)),
         ("gtp.teid", f"0x{teid:08x}"),
-        ("gtp.ext_hdr.next", f"0x{wire.PDU_SESSION_CONTAINER:02x}"),
-        ("gtp.ext_hdr.next", "0x00"),
+    ]
+
+
+def container(direction: int, qfi: int, reflective: int) -> Pairs:
+    """Of one unit."""
+    pairs = [
         ("gtp.ext_hdr.length", "1"),
         ("gtp.ext_hdr.pdu_ses_con.pdu_type", str(direction)),
         ("gtp.ext_hdr.pdu_ses_con.qos_flow_id", str(qfi)),
@@ -103,6 +107,29 @@ def gtpu(teid: int, length: int, direction: int, qfi: int, reflective: int) -> P
     if direction == 0:  # downlink; uplink has neither bit
         pairs += [("gtp.ext_hdr.pdu_ses_cont.ppp", "0"), ("gtp.ext_hdr.pdu_ses_cont.rqi", str(reflective))]
     return pairs
+
+
+def extension_types(kinds: list[int]) -> Pairs:
+    """Those of the extensions in order; behind the last stands 0."""
+    return [("gtp.ext_hdr.next", f"0x{kind:02x}") for kind in [*kinds, 0]]
+
+
+def gtpu(teid: int, length: int, direction: int, qfi: int, reflective: int) -> Pairs:
+    """E alone, one container of one unit."""
+    return (message(wire.G_PDU, teid, wire.E, length) + extension_types([wire.PDU_SESSION_CONTAINER])
+            + container(direction, qfi, reflective))
+
+
+def number(sequence_number: int) -> Pairs:
+    return [("gtp.seq_number", f"0x{sequence_number:04x}")]
+
+
+def recovery(restarts: int) -> Pairs:
+    return [("gtp.recovery", str(restarts))]
+
+
+def echo_response(sequence_number: int) -> Pairs:
+    return message(wire.ECHO_RESPONSE, 0, wire.S, 6) + number(sequence_number) + recovery(0)
 
 
 def ethernet(destination: bytes, source: bytes, ethertype: int) -> Pairs:

@@ -26,12 +26,12 @@ class Sent:
 
 def compare(sent: Sent, shown: dict[str, str]) -> list[str]:
     """The names of all that differs."""
-    fields = decode.differences(decode.texts(sent.pairs), shown)
+    fields = decode.differences(decode.texts(sent.pairs, shown), shown)
     return fields if sent.packet.endswith(sent.tail) else fields + [TAIL]
 
 
 def report(sent: Sent, shown: dict[str, str], names: list[str]) -> None:
-    expected = decode.texts(sent.pairs)
+    expected = decode.texts(sent.pairs, shown)
     print(f"difference: {sent.name}: {', '.join(names)}")
     for name in names:
         if name != TAIL:
@@ -46,12 +46,19 @@ class Count:
     waypoints: int = 0
     refusals: int = 0
     readings: int = 0
+    echoes: int = 0
     differences: int = 0
 
+    def differ(self, *lines: str) -> None:
+        """Counts a difference, and prints it if it is one of the first."""
+        self.differences += 1
+        if self.differences <= SHOWN:
+            print("\n  ".join(lines))
 
-def judge(all_sent: list[Sent], work: Path, count: Count) -> None:
+
+def judge(all_sent: list[Sent], work: Path, count: Count, view: decode.View = decode.G_PDUS) -> None:
     """Decodes and compares; prints the first differences and counts all."""
-    for sent, shown in zip(all_sent, decode.decode([sent.frame() for sent in all_sent], work), strict=True):
+    for sent, shown in zip(all_sent, decode.decode([sent.frame() for sent in all_sent], work, view), strict=True):
         names = compare(sent, shown)
         count.packets += 1
         count.fields += len(sent.pairs)

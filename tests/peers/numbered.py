@@ -11,7 +11,6 @@ from draw import SMALLEST, Draw
 
 REPEATS = 5
 FLAGS = range(8)  # of E, S and PN
-PDCP_PDU_NUMBER = 0xC0  # an extension that is no container (TS 29.281, 5.2.1)
 PADDING = bytes([1, 4]) + bytes(4)  # of an IPv6 options header, behind its first two octets
 MF, LATER = 0x2000, 0x0010  # of an IPv4 header: more fragments; the offset 128
 
@@ -28,8 +27,8 @@ def extensions(draw: Draw) -> tuple[int, bytes]:
     other = wire.extension(bytes([draw.bits(7), draw.bits(8)]), 0)  # tshark remarks on the spare bit
     return draw.choice([
         (wire.PDU_SESSION_CONTAINER, wire.extension(container, 0)),
-        (wire.PDU_SESSION_CONTAINER, wire.extension(container, PDCP_PDU_NUMBER) + other),
-        (PDCP_PDU_NUMBER, other),
+        (wire.PDU_SESSION_CONTAINER, wire.extension(container, wire.PDCP_PDU_NUMBER) + other),
+        (wire.PDCP_PDU_NUMBER, other),
     ])
 
 

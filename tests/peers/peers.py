@@ -1,10 +1,11 @@
-"""peers.py CALL WORK PREFIX: the four parts, with the program CALL, files in WORK, and namespaces whose names begin with PREFIX."""
+"""peers.py CALL WORK PREFIX: the five parts, with the program CALL, files in WORK, and namespaces whose names begin with PREFIX."""
 
 import sys
 import time
 from pathlib import Path
 
 import decoded
+import echo
 import headend
 import network
 import refusals
@@ -37,6 +38,10 @@ def main(program: str, work: Path, prefix: str) -> int:
     say(refusals.run(library, chain, count))
     say(sequence.run(library, work, count))
     say(yard.run(work, count))
+    before = count.differences
+    say(echo.run(library, work, count))
+    say("self-test not run: packets differ already" if count.differences > before else echo.self_test(library, work))
+    say(echo.refusals(library, count))
     print(f"peers: {count.packets} packets decoded, {count.fields} fields compared, {count.waypoints} waypoints, {count.refusals} refusals "
           f"and {count.readings} readings compared, {count.differences} differences")
     return 1 if count.differences else 0

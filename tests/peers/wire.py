@@ -5,9 +5,10 @@ import struct
 NEXT_IPV4, NEXT_UDP, NEXT_IPV6, NEXT_ROUTING, NEXT_ETHERNET = 4, 17, 41, 43, 143
 NEXT_HOP_BY_HOP, NEXT_FRAGMENT, NEXT_DESTINATION_OPTIONS = 0, 44, 60
 GTPU_PORT = 2152
-E, S = 4, 2  # flags of a GTP-U header
-ECHO_REQUEST, ERROR_INDICATION, END_MARKER, G_PDU = 1, 26, 254, 255
-PDU_SESSION_CONTAINER = 0x85
+E, S, PN = 4, 2, 1  # flags of a GTP-U header
+ECHO_REQUEST, ECHO_RESPONSE, ERROR_INDICATION, END_MARKER, G_PDU = 1, 2, 26, 254, 255
+PDU_SESSION_CONTAINER, PDCP_PDU_NUMBER = 0x85, 0xC0  # extensions (TS 29.281, 5.2.1)
+RECOVERY, PRIVATE_EXTENSION = 14, 255  # elements (TS 29.281, 8.1)
 
 
 def ones_sum(octets: bytes) -> int:
@@ -64,6 +65,11 @@ def gtpu(teid: int, container: bytes, inner: bytes, spare_s_pn: int = 0, sequenc
     """A G-PDU with one extension, the PDU Session container, given by its contents."""
     rest = struct.pack("!HBB", sequence, n_pdu, PDU_SESSION_CONTAINER) + extension(container, 0) + inner
     return message(G_PDU, teid, E | spare_s_pn, rest)
+
+
+def echo_response(number: int) -> bytes:
+    """What order 1 has the gateway write: S alone, and the element Recovery with 0."""
+    return message(ECHO_RESPONSE, 0, S, struct.pack("!HBBBB", number, 0, 0, RECOVERY, 0))
 
 
 def ethernet(destination: bytes, source: bytes, ethertype: int, payload: bytes) -> bytes:
