@@ -1,11 +1,13 @@
 #!/usr/bin/env bash
-# can-run.sh: whether run.sh can run here. Installs the Debian packages that are missing. If it cannot, the reason is printed and the
-# status is 1.
+# can-run.sh: whether run.sh can run here. Installs the Debian packages that are missing, and unpacks osmo-ggsn under target/peers. If it
+# cannot, the reason is printed and the status is 1.
 set -u
 
 here=$(cd "$(dirname "$0")" && pwd)
 namespace=kawsarpa-$$-probe
-trap 'ip netns delete "$namespace" 2>/dev/null' EXIT
+ggsn=$here/../../target/peers/osmo-ggsn
+fetched=
+trap 'ip netns delete "$namespace" 2>/dev/null; [ -z "$fetched" ] || rm -rf "$fetched"' EXIT
 trap 'exit 1' INT TERM HUP
 
 refuse() {
@@ -16,17 +18,32 @@ refuse() {
 [ "$(id -u)" -eq 0 ] || refuse "not root"
 
 missing=()
-for pair in tshark:tshark /usr/bin/python3:python3 ip:iproute2 sysctl:procps; do
-    command -v "${pair%%:*}" >/dev/null || missing+=("${pair#*:}")
+for pair in tshark:tshark /usr/bin/python3:python3 ip:iproute2 sysctl:procps /usr/include/cyaml/cyaml.h:libcyaml-dev \
+    /usr/include/yaml.h:libyaml-dev /usr/include/pcap.h:libpcap-dev; do
+    command -v "${pair%%:*}" >/dev/null || [ -e "${pair%%:*}" ] || missing+=("${pair#*:}")
 done
 
+export DEBIAN_FRONTEND=noninteractive
 install() {
-    export DEBIAN_FRONTEND=noninteractive
-    timeout 300 apt-get update -qq && timeout 300 apt-get install -y -qq --no-install-recommends "${missing[@]}"
+    timeout 300 apt-get update -qq && timeout 300 apt-get install -y -qq --no-install-recommends "$@"
 }
 if [ ${#missing[@]} -gt 0 ]; then
     command -v apt-get >/dev/null || refuse "no apt-get to install ${missing[*]}"
-    install >&2 || refuse "apt cannot install ${missing[*]}"
+    install "${missing[@]}" >&2 || refuse "apt cannot install ${missing[*]}"
+fi
+
+# Installed, it would be started, in no namespace of these tests. So it is unpacked and no more, with the libraries that are missing.
+unpack() {
+    mkdir -p "${ggsn%/*}" && fetched=$(mktemp -d "$ggsn.XXXXXX") && mkdir "$fetched/partial" &&
+        install --download-only -o Dir::Cache::archives="$fetched" -o APT::Sandbox::User=root osmo-ggsn || return
+    for package in "$fetched"/*.deb; do
+        dpkg -x "$package" "$fetched" || return
+    done
+    rm -rf "$ggsn" && mv "$fetched" "$ggsn" && fetched=
+}
+if ! command -v osmo-ggsn >/dev/null && [ ! -x "$ggsn/usr/bin/osmo-ggsn" ]; then
+    command -v apt-get >/dev/null || refuse "no apt-get to fetch osmo-ggsn"
+    unpack >&2 || refuse "apt cannot fetch osmo-ggsn"
 fi
 
 within() {
@@ -46,3 +63,4 @@ for mode in encap encap.red l2encap l2encap.red; do
 done
 within ip sr tunsrc set 2001:db8::1 || refuse "'ip sr tunsrc set' not possible"
 PYTHONPATH=$here within /usr/bin/python3 -B -c 'import tap; tap.Tap("in")' || refuse "packet sockets with a ring not permitted"
+PYTHONPATH=$here within /usr/bin/python3 -B -c 'import tunnel; tunnel.open_device()' || refuse "no TUN device can be made in a namespace"

@@ -131,8 +131,9 @@ def over_ipv6(draw: Draw, message: Message, behaviour: int, routed: bool) -> Ech
     return Echo(name, "ipv6", packet, entry(draw, behaviour, destination, hop_limit), message, pairs, answer)
 
 
-def over_ipv4(draw: Draw, message: Message) -> Echo:
-    source, destination, source_port, ttl = draw.ipv4(), draw.ipv4(), port(draw), draw.hop_limit()
+def over_ipv4(draw: Draw, message: Message, gateway: bytes = b"") -> Echo:
+    """To this address, or to one that is drawn."""
+    source, destination, source_port, ttl = draw.ipv4(), gateway or draw.ipv4(), port(draw), draw.hop_limit()
     tos, identification, keep, arriving = draw.bits(8), draw.bits(16), bool(draw.bits(1)), draw.bits(8)
     checksum, status = 0, expect.ABSENT
     if draw.bits(1):

@@ -1,11 +1,14 @@
-"""peers.py CALL WORK PREFIX: the five parts, with the program CALL, files in WORK, and namespaces whose names begin with PREFIX."""
+"""peers.py CALL TOOL GGSN WORK PREFIX: the five parts, with the programs CALL and TOOL (kawsarpa), the folder GGSN in which osmo-ggsn is
+unpacked, files in WORK, and namespaces whose names begin with PREFIX."""
 
 import sys
 import time
 from pathlib import Path
 
+import clients
 import decoded
 import echo
+import ggsn
 import headend
 import network
 import refusals
@@ -14,6 +17,7 @@ import trips
 import yard
 from judge import Count, judge
 from library import Library
+from tunnel import Tunnel
 
 STARTED = time.monotonic()
 
@@ -22,8 +26,8 @@ def say(words: str) -> None:
     print(f"peers: {time.monotonic() - STARTED:5.1f} s: {words}", flush=True)
 
 
-def main(program: str, work: Path, prefix: str) -> int:
-    library, count = Library(program), Count()
+def main(call: str, tool: str, ggsn_folder: Path, work: Path, prefix: str) -> int:
+    library, count = Library(call), Count()
     say(f"tshark decodes {decoded.run(library, work, count)}")
     # damage is looked for in good packets: where one differs already, a change may mend it
     say("self-test not run: packets differ already" if count.differences else decoded.self_test(library, work))
@@ -42,13 +46,17 @@ def main(program: str, work: Path, prefix: str) -> int:
     say(echo.run(library, work, count))
     say("self-test not run: packets differ already" if count.differences > before else echo.self_test(library, work))
     say(echo.refusals(library, count))
-    print(f"peers: {count.packets} packets decoded, {count.fields} fields compared, {count.waypoints} waypoints, {count.refusals} refusals "
-          f"and {count.readings} readings compared, {count.differences} differences")
+    tunnel = Tunnel(library, chain)
+    for words in clients.run(tunnel, tool, count):
+        say(words)
+    say(ggsn.run(tunnel, ggsn_folder, tool, work, count))
+    print(f"peers: {count.packets} packets decoded, {count.fields} fields compared, {count.waypoints} waypoints, {count.refusals} refusals, "
+          f"{count.readings} readings and {count.echoes} Echo Responses of clients and peers compared, {count.differences} differences")
     return 1 if count.differences else 0
 
 
 if __name__ == "__main__":
     try:
-        sys.exit(main(sys.argv[1], Path(sys.argv[2]), sys.argv[3]))
+        sys.exit(main(sys.argv[1], sys.argv[2], Path(sys.argv[3]), Path(sys.argv[4]), sys.argv[5]))
     except (OSError, RuntimeError) as failure:
         sys.exit(f"peers: {failure}")

@@ -1,6 +1,6 @@
 #!/usr/bin/env bash
-# run.sh LIB: tshark and the kernel's SRv6 judge what the library writes, and tshark what its readers find. Never skips: where it cannot
-# run, it fails.
+# run.sh LIB: tshark, the kernel and osmo-ggsn judge what the library writes, and tshark what its readers find. Never skips: where it
+# cannot run, it fails.
 set -eu
 
 LIMIT=300 # seconds
@@ -11,6 +11,7 @@ if [ $# -ne 1 ]; then
 fi
 lib=$1
 here=$(cd "$(dirname "$0")" && pwd)
+top=$here/../..
 prefix=kawsarpa-$$- # of the names of all namespaces that are made
 work=
 tests=
@@ -39,10 +40,12 @@ command -v gcc >/dev/null || fail "gcc is missing"
 reason=$("$here/can-run.sh") || fail "cannot run: $reason"
 
 work=$(mktemp -d)
-gcc -std=c99 -O2 -Werror -Wall -Wextra -Wpedantic -Wconversion -I "$here/../../include" -o "$work/call" "$here/call.c" "$lib"
+gcc -std=c99 -O2 -Werror -Wall -Wextra -Wpedantic -Wconversion -I "$top/include" -o "$work/call" "$here/call.c" "$lib"
+# the tool, for its command echo; the Makefile builds it with warnings
+gcc -std=c11 -D_GNU_SOURCE -DTOOLCHAIN='""' -I "$top/include" -o "$work/kawsarpa" "$top"/tools/*.c "$lib" -lcyaml -lyaml -lpcap
 
 # in the background, so that a signal is heeded at once
-timeout "$LIMIT" /usr/bin/python3 -B "$here/peers.py" "$work/call" "$work" "$prefix" &
+timeout "$LIMIT" /usr/bin/python3 -B "$here/peers.py" "$work/call" "$work/kawsarpa" "$top/target/peers/osmo-ggsn" "$work" "$prefix" &
 tests=$!
 status=0
 wait "$tests" || status=$?

@@ -1,0 +1,156 @@
+"""Part 5, its second half: Echo Requests of real clients, through the kernel, to a gateway behind a tunnel: of UDP sockets, and of the
+command `kawsarpa echo`."""
+
+import json
+import select
+import socket
+import struct
+import subprocess
+from dataclasses import dataclass
+
+import echo
+import table
+import wire
+from draw import Draw
+from judge import Count
+from tunnel import NODE, Tunnel, text
+
+SEED = 6
+EXCHANGES = 50  # with each kind of gateway
+UNCHECKED = 10  # sockets that refuse UDP checksum 0, with each kind of gateway over IPv6
+REQUESTS = 5  # of a run of kawsarpa echo
+FIRST = 65533  # its first sequence number
+UDP_NO_CHECK6_RX = 102  # Linux; IP_RECVTOS and the like have no names in Python
+IP_RECVTTL, IP_RECVTOS = 12, 13
+
+
+@dataclass(frozen=True)
+class Gateway:
+    name: str
+    address: bytes
+    hop_limit: int
+    table: bytes
+
+
+def draw_gateway(draw: Draw, name: str) -> Gateway:
+    hop_limit = draw.hop_limit()
+    if name == "D4":
+        address = draw.ipv4()
+        return Gateway(name, address, hop_limit, echo.rule(draw, address, hop_limit))
+    address = draw.ipv6()
+    return Gateway(name, address, hop_limit, echo.entry(draw, table.D if name == "D" else table.DI, address, hop_limit))
+
+
+def open_client(gateway: Gateway, port: int, tclass: int, checked: bool) -> socket.socket:
+    """An ordinary UDP socket; connected, so the kernel hands it only what comes from the gateway's address and port 2152."""
+    if gateway.name == "D4":
+        client = socket.socket(socket.AF_INET, socket.SOCK_DGRAM)
+        options = [(socket.IP_TOS, tclass), (IP_RECVTOS, 1), (IP_RECVTTL, 1)]
+        level = socket.IPPROTO_IP
+    else:
+        client = socket.socket(socket.AF_INET6, socket.SOCK_DGRAM)
+        options = [(socket.IPV6_TCLASS, tclass), (socket.IPV6_RECVTCLASS, 1), (socket.IPV6_RECVHOPLIMIT, 1)]
+        level = socket.IPPROTO_IPV6
+        if not checked:
+            client.setsockopt(socket.IPPROTO_UDP, UDP_NO_CHECK6_RX, 1)
+    for option, value in options:
+        client.setsockopt(level, option, value)
+    client.bind(("", port))
+    client.connect((text(gateway.address), wire.GTPU_PORT))
+    return client
+
+
+def readable(client: socket.socket) -> bool:
+    return bool(select.select([client], [], [], 0)[0])
+
+
+def received(client: socket.socket) -> tuple[bytes, dict[int, int]]:
+    """The octets, and what the kernel says beside them: traffic class and hop limit, or TOS and TTL."""
+    octets, beside, _, _ = client.recvmsg(2048, 512)
+    return octets, {kind: struct.unpack("i", data)[0] if len(data) == 4 else data[0] for _, kind, data in beside}
+
+
+class Clients:
+    def __init__(self, tunnel: Tunnel, count: Count) -> None:
+        self.tunnel, self.count, self.draw = tunnel, count, Draw(SEED)
+        self.dropped = 0
+
+    def drawn(self, name: str, checked: bool) -> tuple[Gateway, socket.socket, int, echo.Message]:
+        """A gateway of this kind, a client, its traffic class and its message, which is sent."""
+        gateway = draw_gateway(self.draw, name)
+        port, tclass = self.draw.choice([0, wire.GTPU_PORT, self.draw.randrange(1, 65536)]), self.draw.bits(8)
+        client: socket.socket = self.tunnel.chain.within(NODE, lambda: open_client(gateway, port, tclass, checked))
+        flags = wire.S | self.draw.choice([0, wire.PN, wire.E, wire.E | wire.PN])
+        message = echo.request(self.draw, flags)
+        client.send(message.octets)
+        return gateway, client, tclass, message
+
+    def exchange(self, name: str) -> None:
+        """The client gets the Echo Response. Over IPv6 it has to allow the UDP checksum 0."""
+        gateway, client, tclass, message = self.drawn(name, False)
+        with client:
+            self.tunnel.serve(gateway.table, lambda: readable(client), f"an Echo Request to {name}")
+            octets, beside = received(client)
+        four = name == "D4"
+        expected = {socket.IP_TOS if four else socket.IPV6_TCLASS: tclass, socket.IP_TTL if four else socket.IPV6_HOPLIMIT: gateway.hop_limit}
+        self.count.echoes += 1
+        if octets != wire.echo_response(message.number) or beside != expected:
+            self.count.differ(f"difference: an Echo Request to {name}: {message.octets.hex()}",
+                              f"expected {wire.echo_response(message.number).hex()} and {expected}",
+                              f"the socket received {octets.hex()} and {beside}")
+
+    def refuse(self, name: str) -> None:
+        """A client that does not allow it gets nothing, and the kernel counts a wrong checksum (RFC 8200, 8.1). Order 2 changes this."""
+        before = self.tunnel.counter("Udp6InCsumErrors")
+        gateway, client, _, message = self.drawn(name, True)
+        with client:
+            self.tunnel.serve(gateway.table, lambda: readable(client) or self.tunnel.counter("Udp6InCsumErrors") > before,
+                              f"an Echo Request to {name} of a socket that refuses UDP checksum 0")
+            arrived = readable(client)
+        errors = self.tunnel.counter("Udp6InCsumErrors") - before
+        self.dropped += errors
+        self.count.echoes += 1
+        if arrived or errors != 1:
+            self.count.differ(f"difference: an Echo Request to {name}: {message.octets.hex()}",
+                              f"expected UDP checksum 0; {errors} Udp6InCsumErrors, and the socket received {'it' if arrived else 'nothing'}")
+
+    def sockets(self) -> str:
+        for name in ("D", "Di", "D4"):
+            for _ in range(EXCHANGES):
+                self.exchange(name)
+        for name in ("D", "Di"):
+            for _ in range(UNCHECKED):
+                self.refuse(name)
+        return (f"UDP sockets have received {2 * EXCHANGES} Echo Responses over IPv6 and {EXCHANGES} over IPv4; {self.dropped} that refuse "
+                "UDP checksum 0 have not")
+
+    def tool(self, program: str) -> str:
+        for name in ("D", "Di", "D4"):
+            gateway = draw_gateway(self.draw, name)
+            command = start(self.tunnel, program, text(gateway.address))
+            self.tunnel.serve(gateway.table, lambda: command.poll() is not None, f"kawsarpa echo, to {name}")
+            compare_run(command, 0, self.count)
+        return f"kawsarpa echo has sent {3 * REQUESTS} Echo Requests, and received their Echo Responses"
+
+
+def start(tunnel: Tunnel, program: str, address: str) -> subprocess.Popen[str]:
+    return subprocess.Popen(["ip", "netns", "exec", tunnel.namespace, program, "echo", "--json", "-c", str(REQUESTS), "-i", "0.01",
+                             "--first", str(FIRST), address], stdout=subprocess.PIPE, stderr=subprocess.STDOUT, text=True)
+
+
+def compare_run(command: subprocess.Popen[str], recovery: int, count: Count) -> None:
+    """Every Echo Request has got its Echo Response, in order, with this Recovery."""
+    told, _ = command.communicate()
+    expected = [("response", (FIRST + i) % 65536, recovery) for i in range(REQUESTS)]
+    count.echoes += REQUESTS
+    try:
+        events = [(event["event"], event.get("sequence_number"), event.get("recovery")) for event in json.loads(told)["events"]]
+    except (ValueError, KeyError):
+        events = []
+    if command.returncode != 0 or events != expected:
+        count.differ(f"difference: kawsarpa echo: expected {expected}; exit code {command.returncode}", told)
+
+
+def run(tunnel: Tunnel, program: str, count: Count) -> list[str]:
+    clients = Clients(tunnel, count)
+    return [clients.sockets(), clients.tool(program)]
