@@ -115,7 +115,7 @@ fuzz: staticlib
 	KAWSARPA_LIB=$(CURDIR)/$(archive) cargo build --release --offline --quiet --manifest-path tests/boundary/Cargo.toml
 	tests/boundary/target/release/boundary fuzz --seconds $(SECONDS) $(if $(SEED),--seed $(SEED))
 
-# tshark and the kernel's SRv6 judge what the library sends. Run as root; what is missing of Debian's packages is installed.
+# tshark, the kernel and osmo-ggsn judge what the library sends. Run as root; what is missing of Debian's packages is installed.
 peers: test-packages staticlib
 	tests/peers/run.sh $(archive)
 

@@ -91,8 +91,8 @@ class Clients:
         with client:
             self.tunnel.serve(gateway.table, lambda: readable(client), f"an Echo Request to {name}")
             octets, beside = received(client)
-        four = name == "D4"
-        expected = {socket.IP_TOS if four else socket.IPV6_TCLASS: tclass, socket.IP_TTL if four else socket.IPV6_HOPLIMIT: gateway.hop_limit}
+        kinds = (socket.IP_TOS, socket.IP_TTL) if name == "D4" else (socket.IPV6_TCLASS, socket.IPV6_HOPLIMIT)
+        expected = dict(zip(kinds, (tclass, gateway.hop_limit)))
         self.count.echoes += 1
         if octets != wire.echo_response(message.number) or beside != expected:
             self.count.differ(f"difference: an Echo Request to {name}: {message.octets.hex()}",
@@ -112,7 +112,7 @@ class Clients:
         self.count.echoes += 1
         if arrived or errors != 1:
             self.count.differ(f"difference: an Echo Request to {name}: {message.octets.hex()}",
-                              f"expected UDP checksum 0; {errors} Udp6InCsumErrors, and the socket received {'it' if arrived else 'nothing'}")
+                              f"expected UDP checksum 0 in its Echo Response, and 1 Udp6InCsumErrors, not {errors}; received: {arrived}")
 
     def sockets(self) -> str:
         for name in ("D", "Di", "D4"):
@@ -121,8 +121,8 @@ class Clients:
         for name in ("D", "Di"):
             for _ in range(UNCHECKED):
                 self.refuse(name)
-        return (f"UDP sockets have received {2 * EXCHANGES} Echo Responses over IPv6 and {EXCHANGES} over IPv4; {self.dropped} that refuse "
-                "UDP checksum 0 have not")
+        return (f"UDP sockets receive {2 * EXCHANGES} Echo Responses over IPv6 and {EXCHANGES} over IPv4; the kernel drops "
+                f"{self.dropped} with checksum 0")
 
     def tool(self, program: str) -> str:
         for name in ("D", "Di", "D4"):
@@ -130,7 +130,7 @@ class Clients:
             command = start(self.tunnel, program, text(gateway.address))
             self.tunnel.serve(gateway.table, lambda: command.poll() is not None, f"kawsarpa echo, to {name}")
             compare_run(command, 0, self.count)
-        return f"kawsarpa echo has sent {3 * REQUESTS} Echo Requests, and received their Echo Responses"
+        return f"kawsarpa echo receives Echo Responses to {3 * REQUESTS} Echo Requests"
 
 
 def start(tunnel: Tunnel, program: str, address: str) -> subprocess.Popen[str]:

@@ -127,7 +127,7 @@ def over_ipv6(draw: Draw, message: Message, behaviour: int, routed: bool) -> Ech
     answer = (expect.ipv6(tclass, 0, 8 + len(octets), wire.NEXT_UDP, hop_limit, destination, source)
               + expect.udp(wire.GTPU_PORT, source_port, 0, expect.ILLEGAL, octets) + expect.echo_response(message.number))
     packet = wire.ipv6(tclass, label, next_header, arriving, source, destination, payload)
-    name = ("Di" if behaviour == table.DI else "D") + (" behind an SRH" if routed else "")
+    name = ("Di" if behaviour == table.DI else "D") + (" with an SRH" if routed else "")
     return Echo(name, "ipv6", packet, entry(draw, behaviour, destination, hop_limit), message, pairs, answer)
 
 
@@ -192,7 +192,7 @@ def run(library: Library, work: Path, count: judge.Count) -> str:
         all_sent += pair(echo, answered(library, echo), len(all_sent))
         names.append(echo.name)
     judge.judge(all_sent, work, count, decode.ECHO)
-    return "tshark pairs the Echo Requests and Responses of " + ", ".join(f"{names.count(name)} {name}" for name in dict.fromkeys(names))
+    return "tshark pairs Echo Requests and Responses: " + ", ".join(f"{names.count(name)} {name}" for name in dict.fromkeys(names))
 
 
 def self_test(library: Library, work: Path) -> str:
@@ -238,4 +238,4 @@ def refusals(library: Library, count: judge.Count) -> str:
             if answer != (number, 0, 0, 0, b""):
                 count.differ(f"difference: {echo.name}, {what}: expected {number}, the library answers {tuple(answer)}", echo.how())
     count.refusals += total
-    return f"{total - (count.differences - before)} of {total} messages refused as order 1 says"
+    return f"{total - (count.differences - before)} of {total} Echo messages refused as they must be"

@@ -18,8 +18,8 @@ from tunnel import A_MOMENT, NODE, Tunnel, text
 SEED = 7
 REQUESTS = 50
 ADDRESS = bytes([198, 51, 100, 1])
-# It answers with TOS 0, and its kernel has a TTL, an identification and a UDP checksum of its own. TS 29.281, 7.2.2 has 0 in Recovery, which
-# the receiver ignores; osmo-ggsn writes there how often it was started, as TS 29.060 has it.
+# It answers with TOS 0, and its kernel has a TTL, an identification and a UDP checksum of its own. TS 29.281, 7.2.2 has 0 in Recovery,
+# which the receiver ignores; osmo-ggsn writes there how often it was started, as TS 29.060 has it.
 OWN = ["ip.dsfield", "ip.id", "ip.ttl", "ip.checksum", "udp.checksum", "udp.checksum.status", "udp.payload", "gtp.recovery"]
 STARTS = 1
 
@@ -101,5 +101,5 @@ def run(tunnel: Tunnel, folder: Path, program: str, work: Path, count: Count) ->
         clients.compare_run(clients.start(tunnel, program, text(ADDRESS)), STARTS, count)
     finally:
         ggsn.stop()
-    return (f"osmo-ggsn has answered {REQUESTS} Echo Requests as the library does, but for {', '.join(name for name in OWN if name in own)}; "
-            f"and {clients.REQUESTS} of kawsarpa echo")
+    return (f"osmo-ggsn answers {REQUESTS} Echo Requests as the library does, but in {len(own)} fields; and {clients.REQUESTS} of "
+            "kawsarpa echo")

@@ -50,8 +50,9 @@ def main(call: str, tool: str, ggsn_folder: Path, work: Path, prefix: str) -> in
     for words in clients.run(tunnel, tool, count):
         say(words)
     say(ggsn.run(tunnel, ggsn_folder, tool, work, count))
-    print(f"peers: {count.packets} packets decoded, {count.fields} fields compared, {count.waypoints} waypoints, {count.refusals} refusals, "
-          f"{count.readings} readings and {count.echoes} Echo Responses of clients and peers compared, {count.differences} differences")
+    print(f"peers: {count.packets} packets decoded, {count.fields} fields compared, {count.waypoints} waypoints, "
+          f"{count.refusals} refusals, {count.readings} readings and {count.echoes} Echo Responses compared, "
+          f"{count.differences} differences")
     return 1 if count.differences else 0
 
 
