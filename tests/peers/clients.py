@@ -9,11 +9,12 @@ import subprocess
 from dataclasses import dataclass
 
 import echo
+import expect
 import table
 import wire
 from draw import Draw
 from judge import Count
-from tunnel import NODE, Tunnel, text
+from tunnel import NODE, Tunnel
 
 SEED = 6
 EXCHANGES = 50  # with each kind of gateway
@@ -56,7 +57,7 @@ def open_client(gateway: Gateway, port: int, tclass: int, checked: bool) -> sock
     for option, value in options:
         client.setsockopt(level, option, value)
     client.bind(("", port))
-    client.connect((text(gateway.address), wire.GTPU_PORT))
+    client.connect((expect.address(gateway.address), wire.GTPU_PORT))
     return client
 
 
@@ -127,7 +128,7 @@ class Clients:
     def tool(self, program: str) -> str:
         for name in ("D", "Di", "D4"):
             gateway = draw_gateway(self.draw, name)
-            command = start(self.tunnel, program, text(gateway.address))
+            command = start(self.tunnel, program, expect.address(gateway.address))
             self.tunnel.serve(gateway.table, lambda: command.poll() is not None, f"kawsarpa echo, to {name}")
             compare_run(command, 0, self.count)
         return f"kawsarpa echo receives Echo Responses to {3 * REQUESTS} Echo Requests"

@@ -9,15 +9,17 @@ from pathlib import Path
 import clients
 import decode
 import echo
+import expect
 import network
 import wire
 from draw import Draw
 from judge import Count
-from tunnel import A_MOMENT, NODE, Tunnel, text
+from tunnel import A_MOMENT, NODE, Tunnel
 
 SEED = 7
 REQUESTS = 50
 ADDRESS = bytes([198, 51, 100, 1])
+ADDRESS_TEXT = expect.address(ADDRESS)
 # It answers with TOS 0, and its kernel has a TTL, an identification and a UDP checksum of its own. TS 29.281, 7.2.2 has 0 in Recovery,
 # which the receiver ignores; osmo-ggsn writes there how often it was started, as TS 29.060 has it.
 OWN = ["ip.dsfield", "ip.id", "ip.ttl", "ip.checksum", "udp.checksum", "udp.checksum.status", "udp.payload", "gtp.recovery"]
@@ -28,9 +30,9 @@ class Ggsn:
     """Unpacked in a folder, or installed."""
 
     def __init__(self, tunnel: Tunnel, folder: Path, work: Path) -> None:
-        tunnel.chain.ip(NODE, "address", "add", f"{text(ADDRESS)}/32", "dev", "lo")
+        tunnel.chain.ip(NODE, "address", "add", f"{ADDRESS_TEXT}/32", "dev", "lo")
         settings, self.log = work / "ggsn.cfg", work / "ggsn.log"
-        settings.write_text(f"ggsn g\n gtp state-dir {work}\n gtp bind-ip {text(ADDRESS)}\n no shutdown ggsn\n")
+        settings.write_text(f"ggsn g\n gtp state-dir {work}\n gtp bind-ip {ADDRESS_TEXT}\n no shutdown ggsn\n")
         unpacked = folder / "usr/bin/osmo-ggsn"
         libraries = ":".join(map(str, folder.glob("usr/lib/*")))
         with self.log.open("wb") as log:
@@ -55,7 +57,7 @@ class Ggsn:
         raise RuntimeError(f"osmo-ggsn does not answer {packet.hex()}: {self.log.read_text(errors='replace')}")
 
     def stop(self) -> None:
-        self.process.terminate()
+        self.process.kill()
         self.process.wait()
 
 
@@ -75,15 +77,19 @@ def requests() -> list[echo.Echo]:
     return drawn
 
 
+def shown(asked: list[echo.Echo], answers: list[bytes], work: Path) -> list[dict[str, str]]:
+    """What tshark shows of the answers, each behind its Echo Request."""
+    frames = [decode.frame(packet, "ip") for one, answer in zip(asked, answers, strict=True) for packet in (one.packet, answer)]
+    return decode.decode(frames, work, decode.ECHO)[1::2]
+
+
 def compare(ggsn: Ggsn, work: Path, count: Count) -> set[str]:
     """Gives what differs as it must."""
     asked = requests()
-    ours, theirs = ([answer(one) for one in asked] for answer in (
-        lambda one: echo.answered(ggsn.tunnel.library, one), lambda one: ggsn.answer(one.packet)))
-    shown = [decode.decode([decode.frame(packet, "ip") for one, answer in zip(asked, answers) for packet in (one.packet, answer)], work,
-                           decode.ECHO)[1::2] for answers in (ours, theirs)]
+    ours = [echo.answered(ggsn.tunnel.library, one) for one in asked]
+    theirs = [ggsn.answer(one.packet) for one in asked]
     own: set[str] = set()
-    for one, our, their, our_texts, their_texts in zip(asked, ours, theirs, *shown, strict=True):
+    for one, our, their, our_texts, their_texts in zip(asked, ours, theirs, shown(asked, ours, work), shown(asked, theirs, work)):
         differing = decode.differences(our_texts, their_texts)
         own.update(name for name in differing if name in OWN)
         count.echoes += 1
@@ -98,7 +104,7 @@ def run(tunnel: Tunnel, folder: Path, program: str, work: Path, count: Count) ->
     try:
         ggsn.wait()
         own = compare(ggsn, work, count)
-        clients.compare_run(clients.start(tunnel, program, text(ADDRESS)), STARTS, count)
+        clients.compare_run(clients.start(tunnel, program, ADDRESS_TEXT), STARTS, count)
     finally:
         ggsn.stop()
     return (f"osmo-ggsn answers {REQUESTS} Echo Requests as the library does, but in {len(own)} fields; and {clients.REQUESTS} of "

@@ -28,7 +28,7 @@ clean() {
         wait "$tests" 2>/dev/null || true
     fi
     ip netns list 2>/dev/null | sed -n "s/^\(${prefix}[^ ]*\).*/\1/p" | while read -r namespace; do
-        ip netns pids "$namespace" | xargs -r kill -s KILL 2>/dev/null || true # osmo-ggsn takes a moment to end after a signal
+        ip netns pids "$namespace" | xargs -r kill -s KILL 2>/dev/null || true # what a signal has left there
         ip netns delete "$namespace"
     done
     [ -z "$work" ] || rm -rf "$work"

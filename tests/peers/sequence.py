@@ -7,7 +7,7 @@ import decode
 import numbered
 import wire
 from draw import Draw
-from judge import SHOWN, Count
+from judge import Count
 from library import Library
 from numbered import Packet
 
@@ -87,10 +87,9 @@ class Readers:
         self.count.readings += 1
         given = self.library.sequence(packet.call, packet.octets)
         if given != expected:
-            self.count.differences += 1
-            if self.count.differences <= SHOWN:
-                print(f"difference: expected {expected:x}, the reader gives {given:x}; not as asked: {', '.join(broken) or 'nothing'}")
-                print(f"  call: sequence-{packet.call} {packet.octets.hex()}")
+            asked = ", ".join(broken) or "nothing"
+            self.count.differ(f"difference: expected {expected:x}, the reader gives {given:x}; not as asked: {asked}",
+                              f"call: sequence-{packet.call} {packet.octets.hex()}")
 
 
 def run(library: Library, work: Path, count: Count) -> str:

@@ -4,7 +4,6 @@ what that sends."""
 import fcntl
 import os
 import select
-import socket
 import struct
 import time
 from pathlib import Path
@@ -72,7 +71,3 @@ def open_device() -> int:
     device = os.open("/dev/net/tun", os.O_RDWR)
     fcntl.ioctl(device, TUNSETIFF, struct.pack("16sH22x", DEVICE.encode(), IFF_TUN | IFF_NO_PI))
     return device
-
-
-def text(address: bytes) -> str:
-    return socket.inet_ntop(socket.AF_INET6 if len(address) == 16 else socket.AF_INET, address)

@@ -2,7 +2,7 @@
 
 import network
 import table
-from judge import SHOWN, Count
+from judge import Count
 from library import Library
 
 
@@ -35,7 +35,6 @@ class Walk:
         answer = self.library.call("waypoint", arrived, octets)
         if answer.number == 0 and answer.sent == left:
             return
-        self.count.differences += 1
-        if self.count.differences <= SHOWN:
-            print(f"difference: at {node} the kernel sent {left.hex()}\n  library: answer {answer.number}, sent {answer.sent.hex()}")
-            print(f"  call: waypoint {arrived.hex()} {octets.hex()}")
+        self.count.differ(f"difference: at {node} the kernel sent {left.hex()}",
+                          f"library: answer {answer.number}, sent {answer.sent.hex()}",
+                          f"call: waypoint {arrived.hex()} {octets.hex()}")
