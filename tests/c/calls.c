@@ -1,5 +1,6 @@
 /*
- * The calls from C: one of each kind, two whole trips, some refusals, null pointers with a count of 0. Prints a line for each check.
+ * The calls from C: one of each kind, two whole trips, Echo Requests, some refusals, null pointers with a count of 0. Prints a line for
+ * each check.
  */
 #include "checks.h"
 #include "kawsarpa.h"
@@ -194,19 +195,20 @@ static void check_header(const struct table *table)
           "readers of an answer", "each reads its own bits");
 
     for (i = 0; i <= 256; i++) {
-        const int known = i <= KAWSARPA_ANSWER_NO_ROOM || i == KAWSARPA_ANSWER_NO_ROW || i == KAWSARPA_ANSWER_ROW_FULL;
+        const int known = i <= KAWSARPA_ANSWER_BAD_ECHO || i == KAWSARPA_ANSWER_NO_ROW || i == KAWSARPA_ANSWER_ROW_FULL;
         if ((strcmp(kawsarpa_answer_name(i), "unknown") != 0) != known)
             named = 0;
         for (j = 0; known && j < i; j++)
             if (strcmp(kawsarpa_answer_name(i), kawsarpa_answer_name(j)) == 0)
                 named = 0;
     }
-    check(named, "kawsarpa_answer_name", "0 to 16, 25 and 26 have names of their own, and the others up to 256 have none");
+    check(named, "kawsarpa_answer_name", "0 to 17, 25 and 26 have names of their own, and the others up to 256 have none");
     check(strcmp(kawsarpa_answer_name(KAWSARPA_ANSWER_SENT), "sent") == 0 &&
               strcmp(kawsarpa_answer_name(KAWSARPA_ANSWER_BAD_UDP), "bad UDP") == 0 &&
               strcmp(kawsarpa_answer_name(KAWSARPA_ANSWER_NO_ROOM), "no room") == 0 &&
-              strcmp(kawsarpa_answer_name(25), "no row free") == 0 && strcmp(kawsarpa_answer_name(26), "row full") == 0,
-          "kawsarpa_answer_name", "0, 9, 16, 25 and 26 have the right ones");
+              strcmp(kawsarpa_answer_name(17), "bad Echo Request") == 0 && strcmp(kawsarpa_answer_name(25), "no row free") == 0 &&
+              strcmp(kawsarpa_answer_name(26), "row full") == 0,
+          "kawsarpa_answer_name", "0, 9, 16, 17, 25 and 26 have the right ones");
 }
 
 static void check_trip_ipv6(const struct table *table)
@@ -235,6 +237,37 @@ static void check_d(const struct table *table)
 {
     sent(kawsarpa_translate_ipv6, to_d, sizeof to_d, table, from_d, sizeof from_d, "D");
     sent(kawsarpa_waypoint, to_d, sizeof to_d, table, from_d, sizeof from_d, "D by waypoint, the IPv6 call");
+}
+
+/* Echo Requests are answered at D, Di and D4, where they have S and TEID 0. */
+static void check_echo(const struct table *table)
+{
+    uint8_t packet[ROOM], reply[sizeof echo_from_di];
+
+    sent(kawsarpa_translate_ipv6, echo_to_di, sizeof echo_to_di, table, echo_from_di, sizeof echo_from_di, "Echo at Di");
+    check(kawsarpa_is_echo_response(buffer + GUARD, sizeof echo_from_di) == 1, "Echo at Di", "an Echo Response");
+    memcpy(packet, echo_to_di, sizeof echo_to_di);
+    memcpy(reply, echo_from_di, sizeof reply);
+    packet[29] = reply[13] = 1; /* to the D entry, which has hop limit 61 */
+    reply[7] = 61;
+    sent(kawsarpa_translate_ipv6, packet, sizeof echo_to_di, table, reply, sizeof reply, "Echo at D");
+    sent(kawsarpa_translate_ipv4, echo_to_d4, sizeof echo_to_d4, table, echo_from_d4, sizeof echo_from_d4, "Echo at D4");
+    check(kawsarpa_is_echo_response(buffer + GUARD, sizeof echo_from_d4) == 1, "Echo at D4", "an Echo Response");
+
+    memcpy(packet, echo_to_di, sizeof echo_to_di);
+    packet[72] = 0x35;
+    refused(kawsarpa_translate_ipv6, packet, sizeof echo_to_di, table, sizeof *table, KAWSARPA_ANSWER_BAD_ECHO, "Echo without S at Di");
+    memcpy(packet, echo_to_d4, sizeof echo_to_d4);
+    packet[32] = 1;
+    refused(kawsarpa_translate_ipv4, packet, sizeof echo_to_d4, table, sizeof *table, KAWSARPA_ANSWER_BAD_ECHO, "Echo with a TEID at D4");
+    refused_in(0, kawsarpa_translate_ipv4, packet, sizeof echo_to_d4, table, sizeof *table, KAWSARPA_ANSWER_BAD_ECHO, 0, 0, 0,
+               "Echo with a TEID at D4, room 0");
+    packet[29] = 2;
+    refused(kawsarpa_translate_ipv4, packet, sizeof echo_to_d4, table, sizeof *table, KAWSARPA_ANSWER_NOT_G_PDU, "Echo Response at D4");
+
+    check(kawsarpa_is_echo_response(from_e6, sizeof from_e6) == 0 && kawsarpa_is_echo_response(from_e4, sizeof from_e4) == 0 &&
+              kawsarpa_is_echo_response(from_d, sizeof from_d) == 0 && kawsarpa_is_echo_response(NULL, 0) == 0,
+          "kawsarpa_is_echo_response", "0 of packets that are sent on, and of nothing");
 }
 
 static void check_refusals(const struct table *table)
@@ -329,6 +362,7 @@ int main(void)
     check_trip_ipv6(&table);
     check_trip_ipv4(&table);
     check_d(&table);
+    check_echo(&table);
     check_refusals(&table);
     check_wrappers(&table);
     check(memcmp(&table, &as_built, sizeof table) == 0, "table", "no call changed it");

@@ -126,6 +126,10 @@ module _ (o o′ p : List ℕ) (put : o′ ≡ splice o 12 (window p 16 4 ++ win
       let z = window p 16 4 ++ window p 12 4 in
       let n : length z ≡ 8 = length-append (window p 16 4) (window p 12 4) ∙ (λ i. window-length p 16 4 i + window-length p 12 4 i) in
       record {
-        holds = r .holds ∙ ap (λ (l : List ℕ). splice l 0 head) put ∙ covers o 12 z head (omega (arith, n, r .count)) (omega (arith, r .count));
+        holds = r .holds ∙ ap (λ (l : List ℕ). splice l 0 head) put ∙ covers o 12 z head (omega (arith, n, r .count)) (omega (
+          arith,
+          r
+              .count,
+        ));
         count = r .count;
       }

@@ -133,7 +133,8 @@ module _ (r p : List ℕ) (h : Header4) (arrived : WellFormed4 p h) (g : Datagra
     echo-front = gtp4Rows (header4 p) (datagram (datagramIn4 p)) ++ messageRows (datagram (datagramIn4 p))
 
     echo4-front : isEcho (datagram (datagramIn4 p)) ≡ true → v ≡ verdict echo-front
-    echo4-front t = echo-verdict p 20 g place size first read (gtp4Rows h g) (Rule.direction r) (Rule.session r) field v judged t _ front-here
+    echo4-front t = echo-verdict p 20 g place size first read (gtp4Rows h g) (Rule.direction r) (Rule.session r) field v judged t _
+        front-here
 
     echo4-rows : echoPlan4 r p .rows ≡ echo-front ++ echoRows (datagram (datagramIn4 p))
     unfolding echoPlan4 rowsEcho4

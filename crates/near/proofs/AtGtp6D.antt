@@ -105,7 +105,8 @@ module _ (e policy : List ℕ) (tail : ℕ) (p : List ℕ) (h : Header) (asked :
           let bounds = gpdu-bounds p (header p .upperAt) g place size first here (gtp6Rows h g) (Entry.direction e) (Entry.session e) _ v
           judged t in
           record {
-            rows = gpdu-verdict p (header p .upperAt) g place size first here (gtp6Rows h g) (Entry.direction e) (Entry.session e) _ v judged
+            rows = gpdu-verdict p (header p .upperAt) g place size first here (gtp6Rows h g) (Entry.direction e) (Entry.session e) _ v
+                judged
                 t (carried6 p .inner) inner-here _ front-here _ (λ i. 8 + 16 * k i + z i);
             at = gPdu6-place;
             within = λ q. bounds q .0;

@@ -38,8 +38,8 @@ fn judge_outer(h: rules::Header4, g: rules::Datagram) -> Verdict
     Verdict::Pass
 }
 
-// All rows but 16: 8 to 10 and by the type of the message 17, or 11 to 15 for an inner packet of `size` octets that begins with `first`, and
-// the length field of what is to be sent.
+// Rows 8 to 10, and of a message that is no Echo Request 11 to 15, for an inner packet of `size` octets that begins with `first`, and the
+// length field of what is to be sent.
 fn judge(
     r: &[u8],
     h: rules::Header4,

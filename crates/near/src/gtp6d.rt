@@ -48,7 +48,7 @@ fn judge_outer(h: rules::Header, g: rules::Datagram) -> Verdict
     Verdict::Pass
 }
 
-// All rows but 16: 5, 7 to 10 and by the type of the message 17, or 11 to 15 for an inner packet of `size` octets that begins with `first`, and
+// Rows 5 and 7 to 10, and of a message that is no Echo Request 11 to 15, for an inner packet of `size` octets that begins with `first`, and
 // the length field of what is to be sent.
 fn judge(
     e: &[u8],

@@ -30,7 +30,9 @@ unfoldable pub computing : Unit {0}
 unfolding window number splice firstBits under clear entryAt ruleAt policyAt addressesAt longest matchEntry matchRule all headerSound
     entrySound ruleSound policySound sameEntryPrefix sameRulePrefix distinct soundWithin segment onesSum argsAt withArgs verdict overlay
     header datagram messageRows gPduRows innerRows innerProtocol accepts carriedBy carried6 carried4 withRouting forwarded waypointRows
-    stepRows echoRows echoReply6 echoReply4 gtp6DPacket gtp6Rows rowsGtp6D rowsEcho6 dPath dPacket diPath diPacket e6Carried e6Packet e6Rows rowsE6 e4Carried e4Packet e4Rows
-    rowsE4 header4 d4Sid d4Source d4Packet gtp4Rows rowsD4 rowsEcho4 decideEntry decideFoundEntry decideFoundRule frontRows6 frontRows4 rows6
+    stepRows echoRows echoReply6 echoReply4 gtp6DPacket gtp6Rows rowsGtp6D rowsEcho6 dPath dPacket diPath diPacket e6Carried e6Packet
+    e6Rows rowsE6 e4Carried e4Packet e4Rows
+    rowsE4 header4 d4Sid d4Source d4Packet gtp4Rows rowsD4 rowsEcho4 decideEntry decideFoundEntry decideFoundRule frontRows6 frontRows4
+    rows6
     rows4 translate6 translate4 trip
 computing = tt

@@ -128,7 +128,8 @@ module _ (s : Stop) (p d : List ℕ) (k : ℕ) (a : AtRule s d k) (hd : Ipv4.des
       let found = atFoundRule t p (matchRule t (Ipv4.destination p)) in
       let k₁ = sent-settle room (unless (frontRows4 t (header4 p)) found) x (sym (settled4 p t room) ∙ sym (call-v4 s p (a .call)) ∙ hc) in
       let (n, k₂) = unless-sent (frontRows4 t (header4 p)) found x k₁ in
-      sent-passed (ruleAt t k) p x type (n .1 .0) (n .1 .1 .0) (sym (ap (λ (f : Found). atFoundRule t p f) found-at ∙ at-found-rule t p k) ∙ k₂)
+      sent-passed (ruleAt t k) p x type (n .1 .0) (n .1 .1 .0) (sym (ap (λ (f : Found). atFoundRule t p f) found-at ∙ at-found-rule t p k)
+      ∙ k₂)
 
   pub passed-call : (r : List ℕ) → ruleAt (s .table) k ≡ r → Passed r p → length (d4Packet r (carried4 p)) ≤ length (s .buffer)
       → call s p ≡ Sent (d4Packet r (carried4 p))

@@ -1,5 +1,5 @@
--- Sample packets on both sides of each threshold of rows 2 to 14 and 17, and some to which two rows apply, and what the calls answer them: one
--- list, checked by computation.
+-- Sample packets on both sides of each threshold of rows 2 to 14 and 17, and some to which two rows apply, and what the calls answer them:
+-- one list, checked by computation.
 use mathlib.Core.Bool.{Bool, true, _&&_}
 use mathlib.Core.List.{List, [], _∷_, _++_}
 use Prim.Native.Nat.{ℕ, _+_}

@@ -89,8 +89,8 @@ pub record GtpuFields (u : List ℕ) (direction : ℕ) (args : Args) (inner : Li
   pub followingType : Gtpu.followingType u ≡ 0
   pub innerOctets : Gtpu.innerOf u ≡ inner
 
--- UDP and an Echo Response (TS 29.281, 7.2.2) to the datagram `request`: from 2152 to its source port, with its sequence number; S only, TEID
--- 0, N-PDU number and next type 0, and behind these one Recovery element with restart counter 0
+-- UDP and an Echo Response (TS 29.281, 7.2.2) to the datagram `request`: from 2152 to its source port, with its sequence number; S only,
+-- TEID 0, N-PDU number and next type 0, and behind these one Recovery element with restart counter 0
 pub record EchoFields (u request : List ℕ) : Type 0 where
   pub sourcePort : Gtpu.sourcePort u ≡ 2152
   pub destinationPort : Gtpu.destinationPort u ≡ Gtpu.sourcePort request
@@ -216,8 +216,8 @@ pub record WrittenE4 (e : List ℕ) (c : Carried) (p : List ℕ) : Type 0 where
   pub udp : UdpFields (drop 20 p) (Entry.sourcePort e) (24 + length (c .inner))
   pub gtpu : GtpuFields (drop 20 p) (Entry.direction e) (c .args) (c .inner)
 
--- The reply x to the Echo Request p, at the entry e of D or Di and at the rule r: addresses exchanged, the request's traffic class (TOS), the
--- entry's hop limit or the rule's TTL. There is no SRH. The request's datagram is u.
+-- The reply x to the Echo Request p, whose datagram is u, at the entry e of D or Di and at the rule r: addresses exchanged, the request's
+-- traffic class (TOS), the entry's hop limit or the rule's TTL; no SRH
 pub record WrittenEcho6 (e p u x : List ℕ) : Type 0 where
   pub ipv6 : Ipv6Fields x (Ipv6.trafficClass p) 22 (Entry.hopLimit e)
   pub nextHeader : Ipv6.nextHeader x ≡ 17

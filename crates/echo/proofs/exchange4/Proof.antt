@@ -15,7 +15,8 @@ returns c =
     let s = c .before .before .before .before .before .before .before .before .before .before .before .before in
     let p = now (s .args .packet) in
     let o = now (s .args .out) in
-    chain o 12 (take 4 (drop 16 p)) (take 4 (drop 12 p)) (c .before .before .before .before .before .before .before .copy-to .ensures) (c .before .before .copy-to2 .ensures)
+    chain o 12 (take 4 (drop 16 p)) (take 4 (drop 12 p)) (c .before .before .before .before .before .before .before .copy-to .ensures) (c
+    .before .before .copy-to2 .ensures)
     (omega (arith, length-part 16 4 p (s .pre .0))) (omega (arith, s .pre .1))
     ∙ ap (splice o 12) (λ i. sym (window-part p 16 4 (s .pre .0)) i ++ sym (window-part p 12 4 (omega (arith, s .pre .0))) i)
 

@@ -20,7 +20,8 @@ head-of : (w : tie.After-window162) → let a = w .before .before .before .befor
 head-of w =
     let a = w .before .before .before .before .before .args in
     let p = now (a .packet) in
-    (λ i. ipv6 (a .class) 22 17 (a .hops) (w .before .window16 .ensures i) (w .window162 .ensures i) [] ++ w .before .before .response-to .ensures i)
+    (λ i. ipv6 (a .class) 22 17 (a .hops) (w .before .window16 .ensures i) (w .window162 .ensures i) [] ++ w .before .before .response-to
+    .ensures i)
     ∙ ipv6-before (a .class) 22 17 (a .hops) (window p 24 16) (window p 8 16) (echoAnswer (drop (a .at) p))
 
 put-reply6-requires : tie.Need-put-reply6-requires
