@@ -1,5 +1,5 @@
-// Echo at D, Di and D4 (TS 29.281, 7.2): row 17, and the Echo Response that goes back to the sender of an Echo Request. All of it is read
-// from the packet again, so that nothing is kept for it where a G-PDU is sent on.
+// Echo at D, Di and D4 (TS 29.281, 7.2): row 17, and the Echo Response that goes back to the sender of an Echo Request. Flags, TEID, port
+// and sequence number are read from the packet here and not from its view: nothing is kept for them where a G-PDU is sent on.
 use answer::Answer;
 use rules::assigned;
 ghost use mathlib.Core.Path.{_≡_};
@@ -171,8 +171,8 @@ fn exchange4(packet: &[u8], out: &mut [u8])
     octets::copy_to(out, 16, &packet[12..16]);
 }
 
-// The same over IPv4. The addresses are read where they were copied to: read from the packet, octet by octet for the checksum, they would
-// be the lookup's too, for every packet.
+// The same over IPv4. The checksum needs the addresses octet by octet. They are read from the output, where they were copied to: the
+// compiler would share such reads of the packet with the lookup of its destination, and slow that down for every packet.
 fn send4(packet: &[u8], at: usize, tos: u8, ttl: u8, out: &mut [u8]) -> Answer
     requires { ⌜ (at < 65536) × (20 ≤ length (now packet)) ⌝ }
     ensures { λ a. ⌜ Answered (settle (length (now (out .entry))) (Sent (replyTo4 (now (packet .entry)) at tos ttl)))

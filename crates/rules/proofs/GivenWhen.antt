@@ -37,7 +37,7 @@ use Rattle.rules.specs.D4.{d4Packet, gtp4Rows, rowsD4, rowsEcho4, decide
 use Rattle.rules.specs.Header4.{header4, malformed4, badHeader4}
 use Rattle.rules.specs.Calls.{unsoundRow, nothing, decideEntry, decideFoundEntry, decideFoundRule}
 use Rattle.rules.specs.Calls.{frontRows6, frontRows4, rows6, rows4}
-use Rattle.rules.specs.Refused.{upper, behind, NoEntry, NoRule, Echo, GivenWaypoint, GivenGtp6D}
+use Rattle.rules.specs.Refused.{upper, behind, NoEntry, NoRule, Echo, Other, GivenWaypoint, GivenGtp6D}
 use Rattle.rules.specs.Refused.{GivenE6, GivenE4, GivenD4, GivenAtEntry, Given6, Given4}
 use Rattle.rules.specs.declared.Found.{Found}
 use Rattle.rules.specs.declared.Found.the-variants.{At, Nothing}
@@ -113,7 +113,7 @@ module _ (p t : List ℕ) (room : ℕ) where
         never = (refl, (refl, tt));
       }
 
-  gPdu6-given : (e made : List ℕ) (path : List (List ℕ)) (segments : ℕ) → (Echo (behind p) → ⊥) → length path ≡ segments
+  gPdu6-given : (e made : List ℕ) (path : List (List ℕ)) (segments : ℕ) → Other (behind p) → length path ≡ segments
       → length made ≡ 40 + (8 + 16 * segments + length (carried6 p .inner))
       → GivenGtp6D e p segments room (λ n. applies n (rowsWith (decideGPdu6 e path made p)))
   unfolding rowsGtp6D gtp6Rows messageRows gPduRows innerRows header carried6 carriedBy
@@ -313,7 +313,7 @@ module _ (r p t : List ℕ) (room : ℕ) where
         never = (refl, (refl, (refl, tt)));
       }
 
-  gPdu4-given : (Echo (drop 20 p) → ⊥) → Octets p → Rule.p r ≤ 7 → Rule.q r ≤ 12
+  gPdu4-given : Other (drop 20 p) → Octets p → Rule.p r ≤ 7 → Rule.q r ≤ 12
       → GivenD4 r p room (λ n. applies n (rowsWith4 (decideGPdu4 r p)))
   unfolding rowsD4 gtp4Rows messageRows gPduRows innerRows header4 carried4 carriedBy
   gPdu4-given other o hp hq =

@@ -42,7 +42,7 @@ abbrev pub d4Rows : (r inner : List ℕ) → List Row
 d4Rows r inner =
     innerRows (Rule.session r) (length inner) (octet inner 0) (pastWaypointsPayload (Rule.waypoints r) inner)
 
--- all rows of D4 for a G-PDU, 8 to 15
+-- all rows of D4, 8 to 15, for any message but an Echo Request; row 11 leaves G-PDUs alone
 unfoldable pub rowsD4 : (r packet : List ℕ) → List Row
 rowsD4 r packet =
     let g = datagram (datagramIn4 packet) in

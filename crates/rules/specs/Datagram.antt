@@ -1,4 +1,4 @@
--- What is asked of a UDP datagram at D, Di and D4: rows 8 to 15.
+-- What is asked of a UDP datagram at D, Di and D4: rows 8 to 15. Row 17, of Echo Requests, is in Echo.antt.
 use mathlib.Core.Bool.{Bool, not, _&&_}
 use mathlib.Core.List.{List, [], _∷_}
 use Prim.Native.Nat.{ℕ, _+_, _*_, _/_, _%_}

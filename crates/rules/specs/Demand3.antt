@@ -175,7 +175,7 @@ Promise {near} {ss} {far} {p} (over4 k j m) = Delivers4 near ss far p k j
 
 -- D, WHICH HAS NO FAR END IN THE PAPERS
 
--- a packet past the D entry i of the near gateway, on its way past waypoints to the policy's last SID
+-- a G-PDU past the D entry i of the near gateway, on its way past waypoints to the policy's last SID
 pub record MatchingD (near : Stop) (ss : List Stop) (p : List ℕ) (i : ℕ) : Type 0 where
   pub octets : Octets p
   pub gPdu : Gtpu.messageType (datagramIn6 p) ≡ gPdu

@@ -23,6 +23,7 @@ pub record GoesBy (applies : ℕ → Bool) (o : Outcome) : Type 0 where
   pub free : ((n : ℕ) → applies n ≡ false) → (x : List ℕ) × (o ≡ Sent x)
 
 -- and it is the smallest, but for 17, whose place is behind 10: where a refusal is given no smaller number applies, for 17 none up to 10
+-- (that 11 to 15 do not apply there either is said in Refused.antt, GivenDatagram)
 abbrev pub Smallest : (applies : ℕ → Bool) → Outcome → Type 0
 Smallest applies o = (r : Refusal) → o ≡ Refused r → (n : ℕ) → n < r .number → (r .number ≡ 17 → n ≤ 10) → applies n ≡ false
 

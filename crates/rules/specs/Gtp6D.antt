@@ -28,7 +28,7 @@ gtp6Rows h g =
 abbrev pub gtp6DRows : (e : List ℕ) (path : List (List ℕ)) (inner : List ℕ) → List Row
 gtp6DRows e path inner = innerRows (Entry.session e) (length inner) (octet inner 0) (srv6Payload path inner)
 
--- all rows of D and Di for a G-PDU, 5 to 15
+-- all rows of D and Di, 5 to 15, for any message but an Echo Request; row 11 leaves G-PDUs alone
 unfoldable pub rowsGtp6D : (e : List ℕ) (path : List (List ℕ)) (p : List ℕ) → List Row
 rowsGtp6D e path p =
     let g = datagram (datagramIn6 p) in

@@ -144,6 +144,19 @@ pub data BadGtpu (u : List ℕ) : Type 0 where
   protocolType : Gtpu.protocolType u ≢ 1 → BadGtpu u
   lengthField : 8 + 8 + Gtpu.messageLength u ≢ length u → BadGtpu u
 
+-- 17: an Echo Request (TS 29.281: type 1) without S, or with a TEID other than 0
+
+abbrev pub Echo : (u : List ℕ) → Type 0
+Echo u = Gtpu.messageType u ≡ 1
+
+-- any other message
+abbrev pub Other : (u : List ℕ) → Type 0
+Other u = Gtpu.messageType u ≢ 1
+
+pub data BadEcho (u : List ℕ) : Type 0 where
+  noSequenceNumber : Gtpu.sequenceFlag u ≡ 0 → BadEcho u
+  teid : number u 12 4 ≢ 0 → BadEcho u
+
 -- 12: an extension type but 0x85, a second container, unit count 0 or past the end; the next type counts only if E is set
 
 pub data BadExtension (u : List ℕ) : Type 0 where
@@ -159,12 +172,6 @@ pub data BadContainer (direction : ℕ) (u : List ℕ) : Type 0 where
   noExtension : Gtpu.extensionFlag u ≡ 0 → BadContainer direction u
   noType : Gtpu.extensionType u ≡ 0 → BadContainer direction u
   direction : Gtpu.pduType u ≢ direction → BadContainer direction u
-
--- 17: of an Echo Request: without S, or with a TEID other than 0
-
-pub data BadEcho (u : List ℕ) : Type 0 where
-  noSequenceNumber : Gtpu.sequenceFlag u ≡ 0 → BadEcho u
-  teid : number u 12 4 ≢ 0 → BadEcho u
 
 -- 14: IPv4v6: inner empty or nibble not 4 or 6
 
@@ -187,23 +194,16 @@ pub record GivenWaypoint (p : List ℕ) (room : ℕ) (applies : ℕ → Bool) : 
   pub row16 : 48 ≤ length p → Exactly (applies 16) (room < length p)
   pub never : Never applies (3 ∷ 9 ∷ 10 ∷ 11 ∷ 12 ∷ 13 ∷ 14 ∷ 15 ∷ 17 ∷ [])
 
--- a message is an Echo Request (TS 29.281: type 1), or it is none and something holds
-abbrev pub Echo : (u : List ℕ) → Type 0
-Echo u = Gtpu.messageType u ≡ 1
-
-abbrev pub NoEcho : (u : List ℕ) → Type 0 → Type 0
-NoEcho u statement = (Gtpu.messageType u ≢ 1) × statement
-
--- 9 to 14 and 17 belong to D, Di, D4: a datagram, and the direction and session of the entry or rule. An Echo Request has 17 in the place
--- of 11, and 12 to 15 are not for it.
+-- 9 to 14 and 17 belong to D, Di, D4: a datagram, and the direction and session of the entry or rule. For an Echo Request 17 stands in the
+-- place of 11, and 12 to 15 never apply.
 pub record GivenDatagram (direction session : ℕ) (u : List ℕ) (applies : ℕ → Bool) : Type 0 where
   pub row9 : Exactly (applies 9) (BadUdp u)
   pub row10 : Exactly (applies 10) (BadGtpu u)
   pub row17 : Exactly (applies 17) (Echo u × BadEcho u)
-  pub row11 : Exactly (applies 11) (NoEcho u (Gtpu.messageType u ≢ 255))
-  pub row12 : Exactly (applies 12) (NoEcho u (BadExtension u))
-  pub row13 : Exactly (applies 13) (NoEcho u (BadContainer direction u))
-  pub row14 : Exactly (applies 14) (NoEcho u (BadInner session (Gtpu.innerOf u)))
+  pub row11 : Exactly (applies 11) (Other u × (Gtpu.messageType u ≢ 255))
+  pub row12 : Exactly (applies 12) (Other u × BadExtension u)
+  pub row13 : Exactly (applies 13) (Other u × BadContainer direction u)
+  pub row14 : Exactly (applies 14) (Other u × BadInner session (Gtpu.innerOf u))
 
 -- D and Di, where the SRH that is written holds some segments; a reply to an Echo Request has 62 octets
 pub record GivenGtp6D (e p : List ℕ) (segments room : ℕ) (applies : ℕ → Bool) : Type 0 where
@@ -211,8 +211,8 @@ pub record GivenGtp6D (e p : List ℕ) (segments room : ℕ) (applies : ℕ → 
   pub row7 : Exactly (applies 7) (SegmentsRemain p)
   pub row8 : Exactly (applies 8) (NotGtpu (upper p) (behind p))
   pub datagram : GivenDatagram (Entry.direction e) (Entry.session e) (behind p) applies
-  pub row15 : Exactly (applies 15) (NoEcho (behind p) (65535 < 8 + 16 * segments + length (Gtpu.innerOf (behind p))))
-  pub row16 : (Echo (behind p) → ⊥) → Exactly (applies 16) (room < 48 + 16 * segments + length (Gtpu.innerOf (behind p)))
+  pub row15 : Exactly (applies 15) (Other (behind p) × (65535 < 8 + 16 * segments + length (Gtpu.innerOf (behind p))))
+  pub row16 : Other (behind p) → Exactly (applies 16) (room < 48 + 16 * segments + length (Gtpu.innerOf (behind p)))
   pub row16Echo : Echo (behind p) → Exactly (applies 16) (room < 62)
   pub never : Never applies (3 ∷ 6 ∷ [])
 
@@ -237,11 +237,11 @@ pub record GivenD4 (r p : List ℕ) (room : ℕ) (applies : ℕ → Bool) : Type
   pub row8 : Exactly (applies 8) (NotGtpu (Ipv4.protocol p) (drop 20 p))
   pub datagram : GivenDatagram (Rule.direction r) (Rule.session r) (drop 20 p) applies
   pub row15Past : 0 < Rule.waypointCount r
-      → Exactly (applies 15) (NoEcho (drop 20 p) (65535 < 8 + 16 * (Rule.waypointCount r + 1) + length (Gtpu.innerOf (drop 20 p))))
-  pub row16Past : (Echo (drop 20 p) → ⊥) → 0 < Rule.waypointCount r
+      → Exactly (applies 15) (Other (drop 20 p) × (65535 < 8 + 16 * (Rule.waypointCount r + 1) + length (Gtpu.innerOf (drop 20 p))))
+  pub row16Past : Other (drop 20 p) → 0 < Rule.waypointCount r
       → Exactly (applies 16) (room < 48 + 16 * (Rule.waypointCount r + 1) + length (Gtpu.innerOf (drop 20 p)))
-  pub row15Plain : Rule.waypointCount r ≡ 0 → Exactly (applies 15) (NoEcho (drop 20 p) (65535 < length (Gtpu.innerOf (drop 20 p))))
-  pub row16Plain : (Echo (drop 20 p) → ⊥) → Rule.waypointCount r ≡ 0
+  pub row15Plain : Rule.waypointCount r ≡ 0 → Exactly (applies 15) (Other (drop 20 p) × (65535 < length (Gtpu.innerOf (drop 20 p))))
+  pub row16Plain : Other (drop 20 p) → Rule.waypointCount r ≡ 0
       → Exactly (applies 16) (room < 40 + length (Gtpu.innerOf (drop 20 p)))
   pub row16Echo : Echo (drop 20 p) → Exactly (applies 16) (room < 42)
   pub never : Never applies (5 ∷ 6 ∷ 7 ∷ [])

@@ -1,4 +1,4 @@
--- What a call that sends has sent: the fields of "What is written", by the behaviour of the entry that matches.
+-- What a call that sends has sent: the fields of "What is written", by the entry or rule that matches and the type of the message.
 use mathlib.Core.Path.{_≡_}
 use mathlib.Core.Logic.{_≢_, _⊎_}
 use mathlib.Core.Bool.{true, _||_}

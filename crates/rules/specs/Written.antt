@@ -90,7 +90,7 @@ pub record GtpuFields (u : List ℕ) (direction : ℕ) (args : Args) (inner : Li
   pub innerOctets : Gtpu.innerOf u ≡ inner
 
 -- UDP and an Echo Response (TS 29.281, 7.2.2) to the datagram `request`: from 2152 to its source port, with its sequence number; S only,
--- TEID 0, N-PDU number and next type 0, and behind these one Recovery element with restart counter 0
+-- TEID 0, N-PDU number and next type 0, and behind these one Recovery element with restart counter 0; UDP checksum 0 (house)
 pub record EchoFields (u request : List ℕ) : Type 0 where
   pub sourcePort : Gtpu.sourcePort u ≡ 2152
   pub destinationPort : Gtpu.destinationPort u ≡ Gtpu.sourcePort request

@@ -125,7 +125,7 @@ impl Refusal {
         Refusal::plain(10)
     }
 
-    // Row 11. Another message than a G-PDU.
+    // Row 11. Another message than a G-PDU or an Echo Request.
     pub fn not_gpdu() -> Refusal
         ensures { λ r. ⌜ r ≡ plain 11 ⌝ }
     {

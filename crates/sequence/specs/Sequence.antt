@@ -1,5 +1,6 @@
 -- TEID and sequence number of a packet as it arrives, for the report of lost packets: of a well-formed G-PDU with S, and of nothing else.
--- Well-formed is what the rows say that ask no table, up to row 11: the extensions and the inner packet are not examined.
+-- Well-formed is what the rows say that ask no table, up to row 11, asked of every message, Echo Requests too: the extensions and the inner
+-- packet are not examined.
 use mathlib.Core.Path.{_≡_}
 use mathlib.Core.Bool.{Bool, true, false, cond, _&&_}
 use mathlib.Core.List.{List, [], _∷_, _++_}
