@@ -20,11 +20,11 @@ use Rattle.rules.specs.declared.Verdict.the-variants.{Pass, Refuse}
 use Rattle.rules.proofs.Windows.{window-drop}
 use Rattle.rules.proofs.Judging.{row-yes, judged, verdict-append}
 use Rattle.args.proofs.Laws.{window-all}
-use Rattle.gtpu.specs.Extension.{extensionAfter, fieldsOf, firstPlace}
+use Rattle.extension.specs.Extension.{extensionAfter, fieldsOf, firstPlace}
 use Rattle.gtpu.specs.Reading.{viewOf, argsOf}
-use Rattle.gtpu.specs.declared.extension.Fields.{Fields}
-use Rattle.gtpu.specs.declared.extension.Extension.{Extension}
-use Rattle.gtpu.proofs.Extensions.{fieldsIn, fields-read, content-read, following-read}
+use Rattle.extension.specs.declared.Fields.{Fields}
+use Rattle.extension.specs.declared.Extension.{Extension}
+use Rattle.extension.proofs.Extensions.{fieldsIn, fields-read, content-read, following-read}
 
 -- READING
 

@@ -5,7 +5,7 @@ use Rattle.rules.specs.Octets.{octet}
 use Rattle.rules.specs.Args.{Args}
 use Rattle.rules.specs.Gtpu as Gtpu
 use Rattle.rules.specs.declared.Datagram.{Datagram}
-use Rattle.gtpu.specs.declared.extension.Fields.{Fields}
+use Rattle.extension.specs.declared.Fields.{Fields}
 
 -- of n octets, with the fields of the first extension header, the first octet of its contents, and the type behind it
 abbrev pub viewOf : (u : List ℕ) (n : ℕ) (fields : Fields) (content following : ℕ) → Datagram

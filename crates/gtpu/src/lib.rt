@@ -15,8 +15,6 @@ ghost use Rattle.octets.specs.Run.{Run};
 ghost use Rattle.args.specs.Value.{value};
 ghost use Rattle.gtpu.specs.Reading.{viewOf, argsOf};
 
-mod extension; // extension.rt: extension headers, read by a reader that stands on the packet
-
 // The size of a UDP header.
 const UDP_SIZE: usize = 8;
 

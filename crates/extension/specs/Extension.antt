@@ -6,9 +6,9 @@ use Prim.Native.Nat.{ℕ, _+_, _*_}
 use lib.Dec.{eqb, leb}
 use lib.ListN.{length}
 use Rattle.rules.specs.Octets.{octet}
-use Rattle.gtpu.specs.declared.extension.Fields.{Fields}
-use Rattle.gtpu.specs.declared.extension.Extension.{Extension}
-use Rattle.gtpu.specs.declared.extension.Extension.the-variants.{End, Header, Refused}
+use Rattle.extension.specs.declared.Fields.{Fields}
+use Rattle.extension.specs.declared.Extension.{Extension}
+use Rattle.extension.specs.declared.Extension.the-variants.{End, Header, Refused}
 
 -- the place that says the type of the first extension header
 abbrev pub firstPlace : ℕ

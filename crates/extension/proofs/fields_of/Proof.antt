@@ -1,8 +1,8 @@
 -- `fields_of`: its value for each case.
 use borrow.Author.Needs.{needs}
-use Rattle.gtpu.specs.Extension.{fieldsOf}
-use Rattle.gtpu.proofs.extension.fields_of.Statement.{statement}
-use Rattle.gtpu.proofs.extension.fields_of.Tie as tie
+use Rattle.extension.specs.Extension.{fieldsOf}
+use Rattle.extension.proofs.fields_of.Statement.{statement}
+use Rattle.extension.proofs.fields_of.Tie as tie
 
 returns : tie.Need-returns
 unfolding fieldsOf

@@ -35,14 +35,14 @@ use denote.Triple.Spec.{Meets, tripleOf}
 use denote.Triple.Table.{entered}
 use denote.Triple.Walked.{says, Stays, stay-none-slice, walkOf, goes-none-slice, Walks, ends-at, walked, walk-meets}
 use denote.Exit.{yes}
-use Rattle.gtpu.specs.Extension.{firstPlace}
-use Rattle.gtpu.specs.declared.extension.ExtensionReader.{ExtensionReader}
-use Rattle.gtpu.proofs.extension.ExtensionReader as T
-use Rattle.gtpu.proofs.extension.ExtensionReader.Laws as T′
-use Rattle.gtpu.proofs.extension.new.Key.{name as #new}
-use Rattle.gtpu.proofs.extension.new as new
-use Rattle.gtpu.proofs.extension.new.Statement as stated
-use Rattle.gtpu.proofs.extension.new.Code as code
+use Rattle.extension.specs.Extension.{firstPlace}
+use Rattle.extension.specs.declared.ExtensionReader.{ExtensionReader}
+use Rattle.extension.proofs.ExtensionReader as T
+use Rattle.extension.proofs.ExtensionReader.Laws as T′
+use Rattle.extension.proofs.new.Key.{name as #new}
+use Rattle.extension.proofs.new as new
+use Rattle.extension.proofs.new.Statement as stated
+use Rattle.extension.proofs.new.Code as code
 
 abbrev stayed : Stays (new.ended .signature .params) (new.ended .kept)
 stayed = (stay-none-slice (0 ∷ []) tt (plain (λ _. u8)) yes, tt)

@@ -39,25 +39,25 @@ use denote.Triple.Table.{entered, cited}
 use denote.Triple.Walked.{says, Stays, stay-none-slice, walkOf, goes-none-slice, Walks, ends-at, walked, walk-meets}
 use denote.Exit.{yes}
 use denote.Triple.Clauses.{ensured, lasts}
-use Rattle.gtpu.specs.Extension.{extensionAfter, firstPlace}
-use Rattle.gtpu.specs.declared.extension.ExtensionReader.{ExtensionReader}
-use Rattle.gtpu.specs.declared.extension.Extension.{Extension}
-use Rattle.gtpu.proofs.extension.ExtensionReader as T
-use Rattle.gtpu.proofs.extension.ExtensionReader.Laws as T′
-use Rattle.gtpu.proofs.extension.Extension as S
-use Rattle.gtpu.proofs.extension.Extension.Laws as S′
-use Rattle.gtpu.proofs.extension.new as new
-use Rattle.gtpu.proofs.extension.new.Symbol as new-def
-use Rattle.gtpu.proofs.extension.new.Symbol.{name as #new}
-use Rattle.gtpu.proofs.extension.new.Met as new-thm
-use Rattle.gtpu.proofs.extension.step as step
-use Rattle.gtpu.proofs.extension.step.Symbol as step-def
-use Rattle.gtpu.proofs.extension.step.Symbol.{name as #step}
-use Rattle.gtpu.proofs.extension.step.Met as step-thm
-use Rattle.gtpu.proofs.extension.first.Key.{name as #first}
-use Rattle.gtpu.proofs.extension.first as first
-use Rattle.gtpu.proofs.extension.first.Statement as stated
-use Rattle.gtpu.proofs.extension.first.Code as code
+use Rattle.extension.specs.Extension.{extensionAfter, firstPlace}
+use Rattle.extension.specs.declared.ExtensionReader.{ExtensionReader}
+use Rattle.extension.specs.declared.Extension.{Extension}
+use Rattle.extension.proofs.ExtensionReader as T
+use Rattle.extension.proofs.ExtensionReader.Laws as T′
+use Rattle.extension.proofs.Extension as S
+use Rattle.extension.proofs.Extension.Laws as S′
+use Rattle.extension.proofs.new as new
+use Rattle.extension.proofs.new.Symbol as new-def
+use Rattle.extension.proofs.new.Symbol.{name as #new}
+use Rattle.extension.proofs.new.Met as new-thm
+use Rattle.extension.proofs.step as step
+use Rattle.extension.proofs.step.Symbol as step-def
+use Rattle.extension.proofs.step.Symbol.{name as #step}
+use Rattle.extension.proofs.step.Met as step-thm
+use Rattle.extension.proofs.first.Key.{name as #first}
+use Rattle.extension.proofs.first as first
+use Rattle.extension.proofs.first.Statement as stated
+use Rattle.extension.proofs.first.Code as code
 
 -- the reader's type, over the signature's lifetimes
 abbrev B : Lfts 1 → RattleType
@@ -191,6 +191,6 @@ first-spec 𝓤 H 𝓜 𝓖 𝓡 =
     entered 𝓤 H (tripleOf 𝓤 H (𝓖 .A) first.signature (first.spec 𝓤 H (𝓖 .A) (𝓜 .mem) (𝓡 .run)))
     (tables 𝓤 H 𝓜 𝓡 code.env .C) (tables 𝓤 H 𝓜 𝓡 code.env .Λ) #first code.function (code.unfolded 𝓤 H 𝓜 𝓡)
     (first-meets 𝓤 H (𝓖 .A) (givenOf 𝓤 H 𝓜 𝓖) (𝓜 .mem) (𝓡 .run) (tablesOf 𝓤 H 𝓜 (tables 𝓤 H 𝓜 𝓡 code.env))
-    (cited 𝓤 H (New 𝓤 H (𝓖 .A) (𝓜 .mem) (𝓡 .run)) 𝓜 𝓡 code.env #new new-def.routine code.calls-gtpu·extension·new (new-thm.met 𝓤 H 𝓜 𝓖 𝓡))
-    (cited 𝓤 H (Step 𝓤 H (𝓖 .A) (𝓜 .mem) (𝓡 .run)) 𝓜 𝓡 code.env #step step-def.routine code.calls-gtpu·extension·step
+    (cited 𝓤 H (New 𝓤 H (𝓖 .A) (𝓜 .mem) (𝓡 .run)) 𝓜 𝓡 code.env #new new-def.routine code.calls-extension·new (new-thm.met 𝓤 H 𝓜 𝓖 𝓡))
+    (cited 𝓤 H (Step 𝓤 H (𝓖 .A) (𝓜 .mem) (𝓡 .run)) 𝓜 𝓡 code.env #step step-def.routine code.calls-extension·step
     (step-thm.met 𝓤 H 𝓜 𝓖 𝓡)))

@@ -2,9 +2,9 @@
 use native.Mathlib.Omega.{arith}
 use denote.Ref.{now}
 use borrow.Author.Needs.{needs}
-use Rattle.gtpu.proofs.Extensions.{end-at, no-units, past-units, header-at}
-use Rattle.gtpu.proofs.extension.extension_after.Statement.{statement}
-use Rattle.gtpu.proofs.extension.extension_after.Tie as tie
+use Rattle.extension.proofs.Extensions.{end-at, no-units, past-units, header-at}
+use Rattle.extension.proofs.extension_after.Statement.{statement}
+use Rattle.extension.proofs.extension_after.Tie as tie
 
 returns : tie.Need-returns
 returns c = search end-at

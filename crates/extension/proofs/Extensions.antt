@@ -10,10 +10,10 @@ use lib.ListN.{length, drop, length-drop}
 use lib.Seq.{getD-drop}
 use Rattle.rules.specs.Octets.{octet}
 use Rattle.rules.specs.Gtpu as Gtpu
-use Rattle.gtpu.specs.Extension.{firstPlace, fieldsAt, badUnits, extensionAfter, fieldsOf}
-use Rattle.gtpu.specs.declared.extension.Fields.{Fields}
-use Rattle.gtpu.specs.declared.extension.Extension.{Extension}
-use Rattle.gtpu.specs.declared.extension.Extension.the-variants.{End, Header, Refused}
+use Rattle.extension.specs.Extension.{firstPlace, fieldsAt, badUnits, extensionAfter, fieldsOf}
+use Rattle.extension.specs.declared.Fields.{Fields}
+use Rattle.extension.specs.declared.Extension.{Extension}
+use Rattle.extension.specs.declared.Extension.the-variants.{End, Header, Refused}
 
 -- BY THE TESTS
 

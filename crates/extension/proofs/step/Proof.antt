@@ -45,21 +45,21 @@ use denote.Triple.Table.{entered, cited}
 use denote.Triple.Walked.{says, needs, Stays, stay-none, walkOf, goes-none, Walks, ends-at, walked, walk-meets}
 use denote.Exit.{yes}
 use denote.Triple.Clauses.{ensured, lasts}
-use Rattle.gtpu.specs.Extension.{extensionAfter}
-use Rattle.gtpu.specs.declared.extension.ExtensionReader.{ExtensionReader}
-use Rattle.gtpu.specs.declared.extension.Extension.{Extension}
-use Rattle.gtpu.proofs.extension.ExtensionReader as T
-use Rattle.gtpu.proofs.extension.ExtensionReader.Laws as T′
-use Rattle.gtpu.proofs.extension.Extension as S
-use Rattle.gtpu.proofs.extension.Extension.Laws as S′
-use Rattle.gtpu.proofs.extension.extension_after as at
-use Rattle.gtpu.proofs.extension.extension_after.Symbol as at-def
-use Rattle.gtpu.proofs.extension.extension_after.Symbol.{name as #extension-after}
-use Rattle.gtpu.proofs.extension.extension_after.Met as at-thm
-use Rattle.gtpu.proofs.extension.step.Key.{name as #step}
-use Rattle.gtpu.proofs.extension.step as step
-use Rattle.gtpu.proofs.extension.step.Statement as stated
-use Rattle.gtpu.proofs.extension.step.Code as code
+use Rattle.extension.specs.Extension.{extensionAfter}
+use Rattle.extension.specs.declared.ExtensionReader.{ExtensionReader}
+use Rattle.extension.specs.declared.Extension.{Extension}
+use Rattle.extension.proofs.ExtensionReader as T
+use Rattle.extension.proofs.ExtensionReader.Laws as T′
+use Rattle.extension.proofs.Extension as S
+use Rattle.extension.proofs.Extension.Laws as S′
+use Rattle.extension.proofs.extension_after as at
+use Rattle.extension.proofs.extension_after.Symbol as at-def
+use Rattle.extension.proofs.extension_after.Symbol.{name as #extension-after}
+use Rattle.extension.proofs.extension_after.Met as at-thm
+use Rattle.extension.proofs.step.Key.{name as #step}
+use Rattle.extension.proofs.step as step
+use Rattle.extension.proofs.step.Statement as stated
+use Rattle.extension.proofs.step.Code as code
 
 -- the reader's type, over the signature's lifetimes
 abbrev B : Lfts 1 → RattleType
@@ -187,5 +187,5 @@ step-spec 𝓤 H 𝓜 𝓖 𝓡 =
     entered 𝓤 H (tripleOf 𝓤 H (𝓖 .A) step.signature (step.spec 𝓤 H (𝓖 .A) (𝓜 .mem) (𝓡 .run)))
     (tables 𝓤 H 𝓜 𝓡 code.env .C) (tables 𝓤 H 𝓜 𝓡 code.env .Λ) #step code.function (code.unfolded 𝓤 H 𝓜 𝓡)
     (step-meets 𝓤 H (𝓖 .A) (givenOf 𝓤 H 𝓜 𝓖) (𝓜 .mem) (𝓡 .run) (tablesOf 𝓤 H 𝓜 (tables 𝓤 H 𝓜 𝓡 code.env))
-    (cited 𝓤 H (At 𝓤 H (𝓖 .A) (𝓜 .mem) (𝓡 .run)) 𝓜 𝓡 code.env #extension-after at-def.routine code.calls-gtpu·extension·extension-after
+    (cited 𝓤 H (At 𝓤 H (𝓖 .A) (𝓜 .mem) (𝓡 .run)) 𝓜 𝓡 code.env #extension-after at-def.routine code.calls-extension·extension-after
     (at-thm.met 𝓤 H 𝓜 𝓖 𝓡)))

@@ -4,7 +4,7 @@
 // last octet of the header is the next place.
 ghost use mathlib.Core.Path.{_≡_};
 ghost use Prim.Native.Nat.{_<_};
-ghost use Rattle.gtpu.specs.Extension.{extensionAfter, fieldsOf, firstPlace};
+ghost use Rattle.extension.specs.Extension.{extensionAfter, fieldsOf, firstPlace};
 
 // The octet of a GTP-U message that says the type of its first extension header.
 const FIRST_PLACE: usize = 11;
