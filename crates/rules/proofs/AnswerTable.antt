@@ -48,14 +48,14 @@ module _ (p : List ℕ) where
   waypoint-refusals = refl
 
   -- D and Di, for an Echo Request and for any other message
-  pub echo6-refusals : refusals (rowsEcho6 p)
-      ≡ icmp 5 0 0 0 ∷ icmp 7 4 0 43 ∷ icmp 8 4 4 (upperAt p) ∷ icmp 9 0 0 0 ∷ icmp 10 0 0 0 ∷ icmp 17 0 0 0 ∷ []
+  pub echo6-refusals : (e : List ℕ) → refusals (rowsEcho6 e p)
+      ≡ icmp 5 0 0 0 ∷ icmp 7 4 0 43 ∷ icmp 8 4 4 (upperAt p) ∷ icmp 9 0 0 0 ∷ icmp 18 0 0 0 ∷ icmp 10 0 0 0 ∷ icmp 17 0 0 0 ∷ []
   unfolding rowsEcho6 gtp6Rows messageRows echoRows header
-  echo6-refusals = refl
+  echo6-refusals e = refl
 
   pub gtp6-refusals : (e : List ℕ) (path : List (List ℕ)) → refusals (rowsGtp6D e path p)
-      ≡ icmp 5 0 0 0 ∷ icmp 7 4 0 43 ∷ icmp 8 4 4 (upperAt p) ∷ icmp 9 0 0 0 ∷ icmp 10 0 0 0 ∷ icmp 11 0 0 0 ∷ icmp 12 0 0 0 ∷ icmp 13 0 0 0
-      ∷ icmp 14 0 0 0 ∷ icmp 15 0 0 0 ∷ []
+      ≡ icmp 5 0 0 0 ∷ icmp 7 4 0 43 ∷ icmp 8 4 4 (upperAt p) ∷ icmp 9 0 0 0 ∷ icmp 18 0 0 0 ∷ icmp 10 0 0 0 ∷ icmp 11 0 0 0
+      ∷ icmp 12 0 0 0 ∷ icmp 13 0 0 0 ∷ icmp 14 0 0 0 ∷ icmp 15 0 0 0 ∷ []
   unfolding rowsGtp6D gtp6Rows messageRows gPduRows innerRows header
   gtp6-refusals e path = refl
 
@@ -80,10 +80,10 @@ module _ (p : List ℕ) where
 
 -- BOTH CALLS
 
--- what a refusal of the list is (docs/RULES.md, Answers): its number is from 1 to 17, its ICMP fields are those of the number
+-- what a refusal of the list is (docs/RULES.md, Answers): its number is from 1 to 18, its ICMP fields are those of the number
 pub record Proper (refusalOf : ℕ → Refusal) (r : Refusal) : Type 0 where
   pub least : 1 ≤ r .number
-  pub most : r .number ≤ 17
+  pub most : r .number ≤ 18
   pub fields : r ≡ refusalOf (r .number)
 
 abbrev pub EachProper : (refusalOf : ℕ → Refusal) → List Row → Type 0
@@ -137,12 +137,12 @@ by-type P g echo other a b = go (isEcho g)
 -- ROWS AT HAND, BY COMPUTATION
 
 abbrev numbered : ℕ → Bool
-numbered n = leb 1 n && leb n 17
+numbered n = leb 1 n && leb n 18
 
 proper : {refusalOf : ℕ → Refusal} {r : Refusal} → numbered (r .number) ≡ true → r ≡ refusalOf (r .number) → Proper refusalOf r
 proper {refusalOf} {r} h e = record {
-  least = leb-true _ _ (and-left (leb 1 (r .number)) (leb (r .number) 17) h);
-  most = leb-true _ _ (and-right (leb 1 (r .number)) (leb (r .number) 17) h);
+  least = leb-true _ _ (and-left (leb 1 (r .number)) (leb (r .number) 18) h);
+  most = leb-true _ _ (and-right (leb 1 (r .number)) (leb (r .number) 18) h);
   fields = e;
 }
 

@@ -5,16 +5,10 @@ use Prim.Native.Nat.{ℕ, zero, suc, _+_, _-_, _*_, _/_, _<_}
 use native.Mathlib.Omega.{arith}
 use lib.ListN.{length, length-append}
 use Rattle.rules.specs.Octets.{Octets, window, put16}
-use Rattle.rules.specs.Checksum.{onesAdd, onesSum, checksum}
+use Rattle.rules.specs.Checksum.{onesAdd, onesSum, wordSum, checksum}
 use Rattle.rules.specs.Ipv4 as Ipv4
 use Rattle.rules.specs.Ipv4.{ipv4Front, ipv4}
 use Rattle.rules.proofs.Windows.{window-front}
-
--- the sum of the 16-bit words of some octets, as a plain number
-unfoldable pub wordSum : List ℕ → ℕ
-wordSum [] = 0
-wordSum (a ∷ []) = a * 256
-wordSum (a ∷ b ∷ rest) = a * 256 + b + wordSum rest
 
 -- a number brought down to 16 bits, its carries added at the bottom: 0 from 0 alone, else 1 to FFFF
 abbrev pub fold : ℕ → ℕ

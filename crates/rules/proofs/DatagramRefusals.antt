@@ -1,7 +1,7 @@
--- The tests of rows 8 to 14 and 17 that ask of a UDP datagram hold exactly where Refused.antt says that the number is given.
-use mathlib.Core.Path.{_≡_}
+-- The tests of rows 8 to 14, 17 and 18 that ask of a UDP datagram hold exactly where Refused.antt says that the number is given.
+use mathlib.Core.Path.{_≡_, refl, sym, _∙_}
 use mathlib.Core.Logic.{_≢_}
-use mathlib.Core.Bool.{Bool, true, false, _&&_}
+use mathlib.Core.Bool.{Bool, true, false, not, _&&_, false≢true}
 use mathlib.Core.List.{List, [], _∷_}
 use Prim.Native.Nat.{ℕ, _+_, _*_, _/_, _%_, _<_}
 use native.Mathlib.Nat.{div-div-eq-div-mul}
@@ -11,13 +11,19 @@ use lib.Dec.{eqb, leb, ltb}
 use lib.ListN.{length, getD}
 use borrow.Author.Tests.{ltb-true, leb-true, eqb-true, not-true, lt-ltb, le-leb, eq-eqb, ne-eqb, le-ltb, ltb-false}
 use Rattle.rules.specs.Exactly.{Exactly}
-use Rattle.rules.specs.Octets.{octet, window, number}
+use Rattle.rules.specs.Octets.{Octets, octet, window, number}
+use Rattle.rules.specs.Entry as Entry
+use Rattle.rules.specs.Ipv6 as Ipv6
 use Rattle.rules.specs.Gtpu as Gtpu
 use Rattle.rules.specs.Answer.{differs, given, any}
 use Rattle.rules.specs.Datagram.{datagram, notGtpu, badUdp, badGtpu, extended, badExtensions, badContainer, badInner}
-use Rattle.rules.specs.Refused.{NotGtpu, BadUdp}
+use Rattle.rules.specs.UdpChecksum.{udpSum6, badChecksum}
+use Rattle.rules.specs.AddsUp.{AddsUp}
+use Rattle.rules.specs.Refused.{NotGtpu, BadUdp, BadChecksum}
 use Rattle.rules.specs.Echo.{badEcho}
 use Rattle.rules.specs.Refused.{BadGtpu, BadEcho, BadExtension, BadContainer, BadInner}
+use Rattle.rules.proofs.Windows.{window-length, octets-window}
+use Rattle.rules.proofs.UdpChecksums.{sum-adds, adds-sum}
 use Rattle.rules.proofs.Conditions.{and-left, and-right, _also_}
 use Rattle.rules.proofs.Exact.{and-not, differs-true, ne-differs, only, Leads, leads-given, any-leads}
 use Rattle.rules.proofs.Exact.{any-at, any-from, any-under}
@@ -222,3 +228,34 @@ row-14 session inner = (
     back (BadInner.empty h k) = any-under (eqb session 3) ts (eq-eqb _ _ h) (any-at ts 0 (eq-eqb _ _ k))
     back (BadInner.nibble h k l) =
         any-under (eqb session 3) ts (eq-eqb _ _ h) (any-at ts 1 (rw (ne-eqb (octet inner 0 / 16) 4 k, ne-eqb (octet inner 0 / 16) 6 l)))
+
+-- row 18, between the addresses of a packet p
+module _ (e p u : List ℕ) (op : Octets p) (ou : Octets u) (hu : length u < 65536) where
+  bad : Bool
+  bad = badChecksum (Entry.zeroAllowed e) (Ipv6.source p) (Ipv6.destination p) u
+
+  fits : udpSum6 (Ipv6.source p) (Ipv6.destination p) u ≡ 0xffff → AddsUp (Ipv6.source p) (Ipv6.destination p) u
+  fits = sum-adds (Ipv6.source p) (Ipv6.destination p) u (window-length p 8 16) (window-length p 24 16) hu (octets-window p 8 16 op)
+      (octets-window p 24 16 op) ou
+
+  fitting : AddsUp (Ipv6.source p) (Ipv6.destination p) u → udpSum6 (Ipv6.source p) (Ipv6.destination p) u ≡ 0xffff
+  fitting = adds-sum (Ipv6.source p) (Ipv6.destination p) u (window-length p 8 16) (window-length p 24 16) hu (octets-window p 8 16 op)
+      (octets-window p 24 16 op) ou
+
+  there : bad ≡ true → Dec (Gtpu.udpChecksum u ≡ 0) → BadChecksum e p u
+  unfolding bad
+  there h (yes z) =
+      let n : not (Entry.zeroAllowed e) ≡ true = rw (eq-eqb (Gtpu.udpChecksum u) 0 z) at h in
+      BadChecksum.zero z (λ a. false≢true (sym (not-true (Entry.zeroAllowed e) n) ∙ eq-eqb _ 1 a))
+  there h (no n) =
+      let d : differs (udpSum6 (Ipv6.source p) (Ipv6.destination p) u) 0xffff ≡ true = rw (ne-eqb (Gtpu.udpChecksum u) 0 n) at h in
+      BadChecksum.wrong n (λ a. differs-true _ 0xffff d (fitting a))
+
+  back : BadChecksum e p u → bad ≡ true
+  unfolding bad
+  back (BadChecksum.zero z a) = rw (eq-eqb (Gtpu.udpChecksum u) 0 z, ne-eqb (Entry.zeroChecksum e) 1 a)
+  back (BadChecksum.wrong n a) = rw (ne-eqb (Gtpu.udpChecksum u) 0 n) (ne-differs _ 0xffff (λ q. a (fits q)))
+
+  pub row-18 : Exactly (any (badChecksum (Entry.zeroAllowed e) (Ipv6.source p) (Ipv6.destination p) u ∷ [])) (BadChecksum e p u)
+  unfolding bad
+  row-18 = only bad (BadChecksum e p u) (λ h. there h (ℕ-discrete (Gtpu.udpChecksum u) 0)) back

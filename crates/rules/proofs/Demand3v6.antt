@@ -2,10 +2,10 @@
 use mathlib.Core.Path.{_≡_, refl, sym, ap, _∙_, subst}
 use mathlib.Core.Bool.{true, cond}
 use mathlib.Core.List.{List, [], _∷_, _++_, append-assoc}
-use Prim.Native.Nat.{ℕ, _-_, _≤_, _<_}
+use Prim.Native.Nat.{ℕ, _+_, _-_, _≤_, _<_}
 use native.Mathlib.Omega.{arith}
 use lib.Dec.{eqb}
-use lib.ListN.{length}
+use lib.ListN.{length, length-append}
 use Rattle.rules.specs.Assigned.{endMGtp6DDi, endMGtp6E, downlink}
 use Rattle.rules.specs.Table.{entryAt, policyAt}
 use Rattle.rules.specs.Entry as Entry
@@ -32,6 +32,8 @@ use Rattle.rules.proofs.Sids.{withArgs-length}
 use Rattle.rules.proofs.FarE6.{Valid, e6-length, e6-sends}
 use Rattle.rules.proofs.NearGtp6D.{Passed, sent-passed, passed-sent, passed-quiet, carried6-valid, carried6-source}
 use Rattle.rules.proofs.NearGtp6D.{carried6-destination, back-destination, back-values, back-passed}
+use Rattle.rules.proofs.E6Checksums.{carried6-octets, direction-small}
+use Rattle.rules.proofs.SoundTables.{octets-entry}
 use Rattle.rules.proofs.Sessions.{Carries, carries}
 use Rattle.rules.proofs.Paths.{addressesAt-addresses, way-end, arrives}
 use Rattle.rules.proofs.Tables.{found-di}
@@ -148,6 +150,13 @@ module _ (near : Stop) (ss : List Stop) (far : Stop) (address : List ℕ) (c : C
       (r .room .atNear) in
       trip-whole near ss far p _ _ _ h (o .0) (o .1)
 
+-- what Di sends is not too long for E6
+payload-fits : (e y : List ℕ) (c : Carried) → None (gtp6DRows e (diPath y c) (c .inner)) → 24 + length (c .inner) < 65536
+unfolding diPath innerRows
+payload-fits e y c n =
+    let l = length-append (Policy.waypoints y) (lastWithArgs y (c .args) ∷ c .destination ∷ []) in
+    omega (read, n)
+
 pub demand3-ipv6 : (near : Stop) (ss : List Stop) (far : Stop) (p : List ℕ) (i j : ℕ) → Matching6 near ss far p i j
     → Delivers6 near ss far p i j
 unfolding atDi
@@ -166,10 +175,15 @@ demand3-ipv6 near ss far p i j m =
     rw (m .direction) (passed-quiet e (diPath y c) (diPacket e y c) p n) in
     let back = back-values f c v none quiet in
     let there = back-destination f c v none ∙ carried6-destination p in
-    let n′ = back-passed f c v none e (diPath y c) (m .direction) quiet (n .last) in
+    let w = carried6-octets p (m .octets) in
+    let of = octets-entry (far .table) (m .leaves .octets) j in
+    let sound = found-di entryLimit (near .table) (Ipv6.destination p) i (m .enters .sound) (m .enters .matches) (m .enters .kind) in
+    let hd : Entry.direction f < 2 = rw (m .direction) (direction-small (Entry.direction e) (sound .direction)) in
+    let fits = payload-fits e y c (n .last) in
+    let n′ = back-passed f c v none e (diPath y c) w of hd fits (m .direction) quiet (n .last) in
     record {
       arrives = whole near ss far (Ipv6.destination p) c i j e y f r v none p refl refl n;
-      written = e6-written f c v;
+      written = e6-written f c v w of hd fits;
       size = e6-length f c v;
       values = back;
       again = λ near′ ss′ far′ a.

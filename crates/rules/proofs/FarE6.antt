@@ -17,7 +17,7 @@ use Rattle.rules.specs.Answer.{Sent, lengthRow}
 use Rattle.rules.specs.Header.{header}
 use Rattle.rules.specs.Session.{accepts}
 use Rattle.rules.specs.Carried.{Carried}
-use Rattle.rules.specs.E6.{e6Carried, e6Payload, e6Packet, e6Rows, rowsE6, atE6}
+use Rattle.rules.specs.E6.{e6Carried, e6Payload, e6Datagram, e6Checksum, e6Packet, e6Rows, rowsE6, atE6}
 use Rattle.rules.specs.Trip.{Stop, call}
 use Rattle.rules.specs.Demand3.{AtEntry, HasRoom}
 use Rattle.rules.proofs.Windows.{window-length, window-drop}
@@ -33,16 +33,17 @@ pub record Valid (n : ℕ) (c : Carried) : Type 0 where
   pub to : length (c .destination) ≡ n
   pub args : Fits (c .args)
 
-pub datagram-length : (port direction : ℕ) (x : Args) (inner : List ℕ) → Fits x
-    → length (datagramOctets port direction x inner) ≡ 24 + length inner
-datagram-length port direction x inner f = simp length-append (omega (arith, f .tunnel))
+pub datagram-length : (port direction checksum : ℕ) (x : Args) (inner : List ℕ) → Fits x
+    → length (datagramOctets port direction checksum x inner) ≡ 24 + length inner
+datagram-length port direction checksum x inner f = simp length-append (omega (arith, f .tunnel))
 
 pub e6-length : (e : List ℕ) (c : Carried) → Valid 16 c → length (e6Packet e c) ≡ 64 + length (c .inner)
 unfolding e6Packet
 e6-length e c v =
+    let k = e6Checksum e (c .destination) (c .args) (c .inner) in
     ipv6-length (c .trafficClass) (e6Payload (c .inner)) udpProtocol (Entry.hopLimit e) (Entry.source e) (c .destination)
-    (datagramOctets (Entry.sourcePort e) (Entry.direction e) (c .args) (c .inner)) (window-length e 32 16) (v .to)
-    ∙ rw (datagram-length (Entry.sourcePort e) (Entry.direction e) (c .args) (c .inner) (v .args)) (omega arith)
+    (e6Datagram e k (c .args) (c .inner)) (window-length e 32 16) (v .to)
+    ∙ rw (datagram-length (Entry.sourcePort e) (Entry.direction e) k (c .args) (c .inner) (v .args)) (omega arith)
 
 module _ (e : List ℕ) (upper hop : ℕ) (source : List ℕ) (pre : List (List ℕ)) (sid : List ℕ) (start : ℕ) (c : Carried)
     (hs : length sid ≡ 16) (he : Entry.start e ≡ start) (hb : start ≤ 88) (none : c .source ≡ []) (v : Valid 16 c)

@@ -23,7 +23,12 @@ pub faults : T (every
     ∷ eqb (fault (header 1 0 0 (entry endMGtp6D 48 (network 0xa)))) (7 + 256 * 2)
     ∷ eqb (fault (header 2 0 0 (entry end 48 (network 0xa) ++ entry endMGtp6E 65 (sidOf 1)))) (9 + 256 * 2 + 65536 * 1)
     ∷ eqb (fault (header 2 0 0 (entry end 48 (network 0xa) ++ entry endMGtp6E 48 (network 0xa)))) (14 + 256 * 2 + 65536 * 1)
-    -- octet 9 of an entry is reserved, octet 12 is not examined
+    -- octet 9 is a mark of D and Di, 0 or 1
+    ∷ eqb (fault (splice (table endMGtp6D 0) 25 (1 ∷ []))) 0
+    ∷ eqb (fault (splice (table endMGtp6DDi 0) 25 (1 ∷ []))) 0
+    ∷ eqb (fault (splice (table endMGtp6D 0) 25 (2 ∷ []))) (15 + 256 * 2)
+    ∷ eqb (fault (splice (table endMGtp6DDi 0) 25 (2 ∷ []))) (15 + 256 * 2)
+    -- and reserved at the others; octet 12 is not examined
     ∷ eqb (fault (splice (header 1 0 0 (entry end 48 (network 0xa))) 25 (1 ∷ []))) (13 + 256 * 2)
     ∷ eqb (fault (splice (header 1 0 0 (entry end 48 (network 0xa))) 28 (1 ∷ []))) 0
     -- rules: one for any destination twice

@@ -10,18 +10,21 @@ use borrow.Author.Tests.{eqb-true, eq-eqb, ne-eqb}
 use Rattle.rules.specs.Table.{entries, rules, policies, entryAt, ruleAt, policyAt}
 use Rattle.rules.specs.Sound.{every, all, fresh, headerConditions, entryConditions, ruleConditions, policyConditions, headerSound}
 use Rattle.rules.specs.Sound.{entrySound, ruleSound, policySound, sameEntryPrefix, sameRulePrefix, distinct, soundWithin, sound}
-use Rattle.rules.specs.Sound.{entryLimit}
-use Rattle.rules.specs.Fault.{firstBroken, told, orElse, firstFault, headerRecord, entryRecord, ruleRecord, policyRecord}
+use Rattle.rules.specs.Sound.{entryMarks, entryLimit}
+use Rattle.rules.specs.Fault.{brokenBefore, firstBroken, told, orElse, firstFault, headerRecord, entryRecord, ruleRecord, policyRecord}
 use Rattle.rules.specs.Fault.{headerBroken, entryBroken, ruleBroken, policyBroken, entryRepeated, ruleRepeated, headerFault}
 use Rattle.rules.specs.Fault.{entriesFault, entryPrefixesFault, rulesFault, rulePrefixesFault, policiesFault, faultWithin, fault}
 
 -- NO FAULT, FOR EACH FORM OF A FAULT
 
 -- no condition is broken where all hold; their numbers begin past 0
+none-before : (n : ℕ) (bs : List Bool) (behind : ℕ) → eqb (brokenBefore (suc n) bs behind) 0 ≡ every bs && eqb behind 0
+none-before n [] behind = refl
+none-before n (true ∷ bs) behind = none-before (suc n) bs behind
+none-before n (false ∷ bs) behind = ne-eqb (suc n) 0 (λ e. omega arith)
+
 pub none-broken : (n : ℕ) (bs : List Bool) → eqb (firstBroken (suc n) bs) 0 ≡ every bs
-none-broken n [] = refl
-none-broken n (true ∷ bs) = none-broken (suc n) bs
-none-broken n (false ∷ bs) = ne-eqb (suc n) 0 (λ e. omega arith)
+none-broken n bs = none-before n bs 0 ∙ and-true (every bs)
 
 pub none-told : (kind index condition : ℕ) → eqb (told kind index condition) 0 ≡ eqb condition 0
 unfolding told
@@ -49,7 +52,8 @@ entries-none : (t : List ℕ) → eqb (entriesFault t) 0 ≡ all (λ i. entrySou
 unfolding entryBroken entrySound
 entries-none t =
     none-first _ _ (λ i. none-told entryRecord i (entryBroken (policies t) (entryAt t i))
-    ∙ none-broken 0 (entryConditions (policies t) (entryAt t i))) (entries t)
+    ∙ none-before 0 (entryConditions (policies t) (entryAt t i)) (firstBroken 15 (entryMarks (entryAt t i)))
+    ∙ rw (none-broken 14 (entryMarks (entryAt t i))) refl) (entries t)
 
 pub entry-prefixes-none : (t : List ℕ) (n : ℕ)
     → eqb (firstFault (λ j. told entryRecord j (entryRepeated t j)) n) 0 ≡ distinct (sameEntryPrefix t) n
@@ -106,7 +110,7 @@ faultless-sound t e = sym (none-sound entryLimit t) ∙ eq-eqb (fault t) 0 e
 pub data Named (t : List ℕ) : ℕ → Type 0 where
   none : Named t 0
   atHeader : (condition : ℕ) → condition ≤ 5 → Named t (told headerRecord 0 condition)
-  atEntry : (i condition : ℕ) → i < entries t → condition ≤ 14 → Named t (told entryRecord i condition)
+  atEntry : (i condition : ℕ) → i < entries t → condition ≤ 15 → Named t (told entryRecord i condition)
   atRule : (k condition : ℕ) → k < rules t → condition ≤ 12 → Named t (told ruleRecord k condition)
   atPolicy : (j condition : ℕ) → j < policies t → condition ≤ 3 → Named t (told policyRecord j condition)
 
@@ -114,6 +118,11 @@ broken-most : (n : ℕ) (bs : List Bool) → firstBroken (suc n) bs ≤ n + leng
 broken-most n [] = omega arith
 broken-most n (true ∷ bs) = omega (arith, broken-most (suc n) bs)
 broken-most n (false ∷ bs) = omega arith
+
+before-most : (n : ℕ) (bs : List Bool) (behind most : ℕ) → n + length bs ≤ most → behind ≤ most → brokenBefore (suc n) bs behind ≤ most
+before-most n [] behind most h k = k
+before-most n (true ∷ bs) behind most h k = before-most (suc n) bs behind most (omega arith) k
+before-most n (false ∷ bs) behind most h k = omega arith
 
 -- of two faults, and of several, the first that there is is one of them
 module _ (P : ℕ → Type 0) where
@@ -133,9 +142,10 @@ unfolding faultWithin entryBroken ruleBroken policyBroken
 fault-named limit t =
     else-one (Named t) (headerFault limit t) _ (atHeader _ (broken-most 0 (headerConditions limit t)))
     (else-one (Named t) (entriesFault t) _ (first-one (Named t) _ _ none
-    (λ i l. atEntry i _ l (omega (arith, broken-most 0 (entryConditions (policies t) (entryAt t i))))))
+    (λ i l. atEntry i _ l (before-most 0 (entryConditions (policies t) (entryAt t i)) (firstBroken 15 (entryMarks (entryAt t i))) 15
+    (omega arith) (broken-most 14 (entryMarks (entryAt t i))))))
     (else-one (Named t) (entryPrefixesFault t) _ (first-one (Named t) _ _ none
-    (λ j l. atEntry j _ l (broken-most 13 (fresh (sameEntryPrefix t) j ∷ []))))
+    (λ j l. atEntry j _ l (omega (arith, broken-most 13 (fresh (sameEntryPrefix t) j ∷ [])))))
     (else-one (Named t) (rulesFault t) _ (first-one (Named t) _ _ none
     (λ k l. atRule k _ l (omega (arith, broken-most 0 (ruleConditions (ruleAt t k))))))
     (else-one (Named t) (rulePrefixesFault t) _ (first-one (Named t) _ _ none

@@ -16,7 +16,7 @@ use Rattle.rules.specs.Ipv4.{ipv4}
 use Rattle.rules.specs.Srh as Srh
 use Rattle.rules.specs.Gtpu.{datagramOctets}
 use Rattle.rules.specs.Carried.{Carried}
-use Rattle.rules.specs.E6.{e6Packet, e6Payload}
+use Rattle.rules.specs.E6.{e6Packet, e6Payload, e6Checksum}
 use Rattle.rules.specs.E4.{e4Packet, e4TotalLength}
 use Rattle.rules.specs.Waypoint.{withRouting, forwarded}
 use Rattle.rules.specs.Written.{Ipv6Fields, Ipv4Fields, UdpFields, GtpuFields, WrittenE6, WrittenE4, WrittenWaypoint}
@@ -24,6 +24,7 @@ use Rattle.rules.proofs.Windows.{drop-past, window-length, window-same,
 use Rattle.rules.proofs.Reading.{ipv6-length, ipv6-drop, ipv6-source, ipv6-destination}
 use Rattle.rules.proofs.Sids.{Fits}
 use Rattle.rules.proofs.FarE6.{Valid, datagram-length}
+use Rattle.rules.proofs.E6Checksums.{AllOctets, e6-true}
 use Rattle.rules.proofs.Messages.{message-octet, message-teid, message-pduType, message-following, message-inner}
 use Rattle.rules.proofs.Checksums.{ipv4-sum}
 use Rattle.rules.proofs.Splices.{splice-length, splice-window, splice-other}
@@ -48,19 +49,18 @@ flow-rest : (down : Bool) (q r : ℕ) → q < 64 → r < 2 → ((cond down (r * 
 flow-rest true q r hq hr = omega arith
 flow-rest false q r hq hr = omega arith
 
-module _ (port direction : ℕ) (x : Args) (inner : List ℕ) (f : Fits x) where
-  udp-fields : UdpFields (datagramOctets port direction x inner) port (24 + length inner)
+module _ (port direction k : ℕ) (x : Args) (inner : List ℕ) (f : Fits x) where
+  udp-fields : UdpFields (datagramOctets port direction k x inner) port (24 + length inner)
   udp-fields = record {
     sourcePort = omega arith;
     destinationPort = refl;
     udpLength = omega arith;
-    udpChecksum = refl;
-    size = datagram-length port direction x inner f;
+    size = datagram-length port direction k x inner f;
   }
 
-  gtpu-fields : GtpuFields (datagramOctets port direction x inner) direction x inner
+  gtpu-fields : GtpuFields (datagramOctets port direction k x inner) direction x inner
   gtpu-fields =
-      let o = message-octet port direction x inner f in
+      let o = message-octet port direction k x inner f in
       let (q, top) = flow-rest (eqb direction 0) (x .qfi) (x .reflective) (f .flow) (f .bit) in
       record {
         version = refl;
@@ -71,42 +71,47 @@ module _ (port direction : ℕ) (x : Args) (inner : List ℕ) (f : Fits x) where
         nPduFlag = refl;
         messageType = refl;
         messageLength = omega arith;
-        teid = message-teid port direction x inner f;
+        teid = message-teid port direction k x inner f;
         sequenceNumber = rw (o 0, o 1);
         nPduNumber = o 2;
         extensionType = o 3;
         extensionUnits = o 4;
-        pduType = message-pduType port direction x inner f;
+        pduType = message-pduType port direction k x inner f;
         pduTypeRest = rw (o 5) (omega arith);
         qfi = rw (o 6) q;
         inDownlink = λ h. rw (o 6, h) (omega (arith, f .flow, f .bit));
         inUplink = λ h. rw (o 6, h) (omega (arith, f .flow));
         topBit = rw (o 6) top;
-        followingType = message-following port direction x inner f;
-        innerOctets = message-inner port direction x inner f;
+        followingType = message-following port direction k x inner f;
+        innerOctets = message-inner port direction k x inner f;
       }
 
 -- E6
 
-pub e6-written : (e : List ℕ) (c : Carried) → Valid 16 c → WrittenE6 e c (e6Packet e c)
+pub e6-written : (e : List ℕ) (c : Carried) → Valid 16 c → AllOctets c → Octets e → Entry.direction e < 2
+    → 24 + length (c .inner) < 65536 → WrittenE6 e c (e6Packet e c)
 unfolding e6Packet
-e6-written e c v =
+e6-written e c v w oe hd hl =
     let class = c .trafficClass in
     let payload = e6Payload (c .inner) in
     let hop = Entry.hopLimit e in
     let port = Entry.sourcePort e in
     let direction = Entry.direction e in
-    let u = datagramOctets port direction (c .args) (c .inner) in
+    let k = e6Checksum e (c .destination) (c .args) (c .inner) in
+    let u = datagramOctets port direction k (c .args) (c .inner) in
     let hs = window-length e 32 16 in
-    let hu = datagram-length port direction (c .args) (c .inner) (v .args) in
+    let hu = datagram-length port direction k (c .args) (c .inner) (v .args) in
     let behind = ipv6-drop class payload udpProtocol hop (Entry.source e) (c .destination) u hs (v .to) 0 in
+    let from = ipv6-source class payload udpProtocol hop (Entry.source e) (c .destination) u hs (v .to) in
+    let to = ipv6-destination class payload udpProtocol hop (Entry.source e) (c .destination) u hs (v .to) in
     record {
       ipv6 = ipv6-fields class payload udpProtocol hop (Entry.source e) (c .destination) u hs (v .to) (v .octet) hu;
       nextHeader = refl;
-      source = ipv6-source class payload udpProtocol hop (Entry.source e) (c .destination) u hs (v .to);
-      destination = ipv6-destination class payload udpProtocol hop (Entry.source e) (c .destination) u hs (v .to);
-      udp = rw behind (udp-fields port direction (c .args) (c .inner) (v .args));
-      gtpu = rw behind (gtpu-fields port direction (c .args) (c .inner) (v .args));
+      source = from;
+      destination = to;
+      udp = rw behind (udp-fields port direction k (c .args) (c .inner) (v .args));
+      checksum = rw (from, to, behind) (e6-true e c v w oe hd hl);
+      gtpu = rw behind (gtpu-fields port direction k (c .args) (c .inner) (v .args));
     }
 
 -- E4
@@ -145,13 +150,14 @@ e4-written e c v hs os od hh ht =
     let hop = Entry.hopLimit e in
     let port = Entry.sourcePort e in
     let direction = Entry.direction e in
-    let u = datagramOctets port direction (c .args) (c .inner) in
-    let hu = datagram-length port direction (c .args) (c .inner) (v .args) in
+    let u = datagramOctets port direction 0 (c .args) (c .inner) in
+    let hu = datagram-length port direction 0 (c .args) (c .inner) (v .args) in
     let behind = ipv4-drop class total hop (c .source) (c .destination) u hs (v .to) in
     record {
       ipv4 = ipv4-fields class total hop (c .source) (c .destination) u hs (v .to) (v .octet) ht hh os od (omega arith);
-      udp = rw behind (udp-fields port direction (c .args) (c .inner) (v .args));
-      gtpu = rw behind (gtpu-fields port direction (c .args) (c .inner) (v .args));
+      udp = rw behind (udp-fields port direction 0 (c .args) (c .inner) (v .args));
+      checksum = rw behind refl;
+      gtpu = rw behind (gtpu-fields port direction 0 (c .args) (c .inner) (v .args));
     }
 
 -- WAYPOINT

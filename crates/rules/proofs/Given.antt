@@ -19,7 +19,7 @@ use Rattle.rules.specs.Given.{GoesBy, Smallest, icmp, withoutIcmp, withI
 use Rattle.rules.specs.declared.Refusal.{Refusal}
 use Rattle.rules.specs.declared.Verdict.{Verdict}
 use Rattle.rules.specs.declared.Verdict.the-variants.{Pass, Refuse}
-use Rattle.rules.proofs.Smallest.{after-refused, goes-by, smaller-before}
+use Rattle.rules.proofs.Smallest.{after-refused, goes-by, smaller-before, checksum-before}
 use Rattle.rules.proofs.AnswerTable.{Proper, EachProper, Tabled, verdict-proper, tabled6, tabled4}
 use Rattle.rules.proofs.Splices.{splice-length, splice-window, splice-other}
 use Rattle.rules.proofs.SentFields.{sent6-size, sent4-size}
@@ -43,14 +43,19 @@ no-row-0 refusalOf (r ∷ rs) each =
     rw (ne-eqb 0 (r .refusal .number) (λ e. omega (arith, each .0 .least, e))) (no-row-0 refusalOf rs (each .1))
 
 smallest : (refusalOf : ℕ → Refusal) (d : Decision) → Tabled refusalOf 0 (d .rows) → Smallest (λ n. applies n (d .rows)) (outcome d)
-smallest refusalOf d t r h n l b = pick (ℕ-discrete n 0)
+smallest refusalOf d t = record {
+  none = λ r h n l b c. pick r h n l b c (ℕ-discrete n 0);
+  checksum = λ r h l m. goes-by d (t .order) .refused r h .before 18 (checksum-before (r .number) l m);
+}
   where
-    q : Proper refusalOf r
-    q = verdict-proper refusalOf (d .rows) r (t .each) (after-refused (verdict (d .rows)) (d .packet) r h)
+    proper : (r : Refusal) → outcome d ≡ Refused r → Proper refusalOf r
+    proper r h = verdict-proper refusalOf (d .rows) r (t .each) (after-refused (verdict (d .rows)) (d .packet) r h)
 
-    pick : Dec (n ≡ 0) → applies n (d .rows) ≡ false
-    pick (yes e) = ap (λ (m : ℕ). applies m (d .rows)) e ∙ no-row-0 refusalOf (d .rows) (t .each)
-    pick (no c) = goes-by d (t .order) .refused r h .before n (smaller-before n (r .number) (omega arith) l (q .most) b)
+    pick : (r : Refusal) → outcome d ≡ Refused r → (n : ℕ) → n < r .number → (r .number ≡ 17 → n ≤ 10) → (r .number ≡ 18 → n ≤ 9)
+        → Dec (n ≡ 0) → applies n (d .rows) ≡ false
+    pick r h n l b c (yes e) = ap (λ (m : ℕ). applies m (d .rows)) e ∙ no-row-0 refusalOf (d .rows) (t .each)
+    pick r h n l b c (no z) =
+        goes-by d (t .order) .refused r h .before n (smaller-before n (r .number) (omega arith) l (proper r h .most) b c)
 
 pub smallest6 : (p t : List ℕ) (room : ℕ) → Smallest (λ n. applies n (rows6 p t room)) (translate6 p t room)
 unfolding translate6 rows6

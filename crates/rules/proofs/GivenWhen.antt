@@ -37,12 +37,12 @@ use Rattle.rules.specs.D4.{d4Packet, gtp4Rows, rowsD4, rowsEcho4, decide
 use Rattle.rules.specs.Header4.{header4, malformed4, badHeader4}
 use Rattle.rules.specs.Calls.{unsoundRow, nothing, decideEntry, decideFoundEntry, decideFoundRule}
 use Rattle.rules.specs.Calls.{frontRows6, frontRows4, rows6, rows4}
-use Rattle.rules.specs.Refused.{upper, behind, NoEntry, NoRule, Echo, Other, GivenWaypoint, GivenGtp6D}
+use Rattle.rules.specs.Refused.{upper, upperAt, behind, NoEntry, NoRule, Echo, Other, GivenWaypoint, GivenGtp6D}
 use Rattle.rules.specs.Refused.{GivenE6, GivenE4, GivenD4, GivenAtEntry, Given6, Given4}
 use Rattle.rules.specs.declared.Found.{Found}
 use Rattle.rules.specs.declared.Found.the-variants.{At, Nothing}
 use Rattle.rules.proofs.SoundTables.{sound-table}
-use Rattle.rules.proofs.Windows.{window-length}
+use Rattle.rules.proofs.Windows.{window-length, octets-drop}
 use Rattle.rules.proofs.Longest.{Best, longest-best}
 use Rattle.rules.proofs.Tables.{found-d, found-di, found-rule}
 use Rattle.rules.proofs.NearGtp6D.{carried6-valid}
@@ -60,6 +60,7 @@ use Rattle.rules.proofs.Fields.{waypoint-written}
 use Rattle.rules.proofs.Refusals.{row-2, row-2-ipv4, row-3, row-5, row-5-e6, row-6, row-7, row-7-e6, row-7-waypoint, row-8-waypoint}
 use Rattle.rules.proofs.Refusals.{row-8-session}
 use Rattle.rules.proofs.DatagramRefusals.{row-8, row-9, row-10, row-11, row-17, row-12, row-13, row-14}
+use Rattle.rules.proofs.DatagramRefusals.{row-18}
 use Rattle.rules.proofs.Echoes.{echo-decides6, other-decides6, echo-decides4, other-decides4, reply6-size, reply4-size}
 
 -- a limit and a number said otherwise
@@ -86,18 +87,20 @@ module _ (p t : List ℕ) (room : ℕ) where
     row7 = row-7-waypoint p;
     row8 = row-8-waypoint p;
     row16 = λ h. over-as room (length (forwarded p)) (length p) (waypoint-written p (omega arith) .size);
-    never = (refl, (refl, (refl, (refl, (refl, (refl, (refl, (refl, (refl, tt)))))))));
+    never = (refl, (refl, (refl, (refl, (refl, (refl, (refl, (refl, (refl, (refl, tt))))))))));
   }
 
   -- D and Di, for an Echo Request, for any other message, and by its type
-  echo6-given : (e : List ℕ) (segments : ℕ) → Echo (behind p) → GivenGtp6D e p segments room (λ n. applies n (rowsWith (decideEcho6 e p)))
+  echo6-given : (e : List ℕ) (segments : ℕ) → Octets p → Echo (behind p)
+      → GivenGtp6D e p segments room (λ n. applies n (rowsWith (decideEcho6 e p)))
   unfolding rowsEcho6 gtp6Rows messageRows echoRows header echoReply6
-  echo6-given e segments t =
+  echo6-given e segments o t =
       let u = behind p in
       record {
         row5 = row-5 p;
         row7 = row-7 p;
         row8 = row-8 u (upper p);
+        row18 = λ h. row-18 e p u o (octets-drop p (upperAt p) o) h;
         datagram = record {
           row9 = row-9 u;
           row10 = row-10 u;
@@ -113,17 +116,18 @@ module _ (p t : List ℕ) (room : ℕ) where
         never = (refl, (refl, tt));
       }
 
-  gPdu6-given : (e made : List ℕ) (path : List (List ℕ)) (segments : ℕ) → Other (behind p) → length path ≡ segments
+  gPdu6-given : (e made : List ℕ) (path : List (List ℕ)) (segments : ℕ) → Octets p → Other (behind p) → length path ≡ segments
       → length made ≡ 40 + (8 + 16 * segments + length (carried6 p .inner))
       → GivenGtp6D e p segments room (λ n. applies n (rowsWith (decideGPdu6 e path made p)))
   unfolding rowsGtp6D gtp6Rows messageRows gPduRows innerRows header carried6 carriedBy
-  gPdu6-given e made path segments other hl hm =
+  gPdu6-given e made path segments o other hl hm =
       let u = behind p in
       let inner = Gtpu.innerOf u in
       record {
         row5 = row-5 p;
         row7 = row-7 p;
         row8 = row-8 u (upper p);
+        row18 = λ h. row-18 e p u o (octets-drop p (upperAt p) o) h;
         datagram = record {
           row9 = row-9 u;
           row10 = row-10 u;
@@ -139,19 +143,19 @@ module _ (p t : List ℕ) (room : ℕ) where
         never = (refl, (refl, tt));
       }
 
-  gtp6-given : (e made : List ℕ) (path : List (List ℕ)) (segments : ℕ) → length path ≡ segments
+  gtp6-given : (e made : List ℕ) (path : List (List ℕ)) (segments : ℕ) → Octets p → length path ≡ segments
       → length made ≡ 40 + (8 + 16 * segments + length (carried6 p .inner))
       → GivenGtp6D e p segments room (λ n. applies n (rowsWith (decideGtp6D e path made p)))
   unfolding header
-  gtp6-given e made path segments hl hm = go (ℕ-discrete (Gtpu.messageType (behind p)) 1)
+  gtp6-given e made path segments o hl hm = go (ℕ-discrete (Gtpu.messageType (behind p)) 1)
     where
       there : (d : Decision) → decideGtp6D e path made p ≡ d → GivenGtp6D e p segments room (λ n. applies n (rowsWith d))
           → GivenGtp6D e p segments room (λ n. applies n (rowsWith (decideGtp6D e path made p)))
       there d q h = subst (λ (d : Decision). GivenGtp6D e p segments room (λ n. applies n (rowsWith d))) (sym q) h
 
       go : Dec (Echo (behind p)) → GivenGtp6D e p segments room (λ n. applies n (rowsWith (decideGtp6D e path made p)))
-      go (yes t) = there (decideEcho6 e p) (echo-decides6 e path made p t) (echo6-given e segments t)
-      go (no n) = there (decideGPdu6 e path made p) (other-decides6 e path made p n) (gPdu6-given e made path segments n hl hm)
+      go (yes t) = there (decideEcho6 e p) (echo-decides6 e path made p t) (echo6-given e segments o t)
+      go (no n) = there (decideGPdu6 e path made p) (other-decides6 e path made p n) (gPdu6-given e made path segments o n hl hm)
 
   e6-given : (e : List ℕ) → Octets p → GivenE6 e p room (λ n. applies n (rowsWith (decideE6 e p)))
   unfolding rowsE6 e6Rows header e6Carried
@@ -163,7 +167,7 @@ module _ (p t : List ℕ) (room : ℕ) where
     row16 =
         let c = e6Carried e p in
         over-as room (length (e6Packet e c)) (64 + length (behind p)) (e6-length e c (e6Carried-valid e p o));
-    never = (refl, (refl, (refl, (refl, (refl, (refl, (refl, (refl, (refl, tt)))))))));
+    never = (refl, (refl, (refl, (refl, (refl, (refl, (refl, (refl, (refl, (refl, tt))))))))));
   }
 
   e4-given : (e : List ℕ) → Octets p → GivenE4 e p room (λ n. applies n (rowsWith (decideE4 e p)))
@@ -177,7 +181,7 @@ module _ (p t : List ℕ) (room : ℕ) where
         let c = e4Carried e p in
         let l = window-length (Ipv6.source p) (Entry.q e) 4 in
         over-as room (length (e4Packet e c)) (44 + length (behind p)) (e4-length e c (e4Carried-valid e p o) l);
-    never = (refl, (refl, (refl, (refl, (refl, (refl, (refl, (refl, (refl, tt)))))))));
+    never = (refl, (refl, (refl, (refl, (refl, (refl, (refl, (refl, (refl, (refl, tt))))))))));
   }
 
   -- the rows of the call, where an entry is found
@@ -210,13 +214,13 @@ module _ (p t : List ℕ) (room : ℕ) where
               let l = path-length y 16 (n - 1) (lastWithArgs y (c .args)) [] in
               let w = d-written e y c v (q .least) (q .start) in
               there (GivenGtp6D e p n room) (decideD e y p) (rw b)
-              (gtp6-given e (dPacket e y c) (dPath y c) n (l ∙ omega (arith, q .least)) (w .ipv6 .size));
+              (gtp6-given e (dPacket e y c) (dPath y c) n o (l ∙ omega (arith, q .least)) (w .ipv6 .size));
           di = λ b.
               let q = found-di entryLimit t to i s m b .policy in
               let l = path-length y 16 (n - 1) (lastWithArgs y (c .args)) (c .destination ∷ []) in
               let w = di-written e y c v (q .least) (q .start) in
               there (GivenGtp6D e p (n + 1) room) (decideDi e y p) (rw b)
-              (gtp6-given e (diPacket e y c) (diPath y c) (n + 1) (l ∙ omega (arith, q .least)) (w .ipv6 .size));
+              (gtp6-given e (diPacket e y c) (diPath y c) (n + 1) o (l ∙ omega (arith, q .least)) (w .ipv6 .size));
           e6 = λ b. there (GivenE6 e p room) (decideE6 e p) (rw b) (e6-given e o);
           e4 = λ b. there (GivenE4 e p room) (decideE4 e p) (rw b) (e4-given e o);
         }
@@ -310,7 +314,7 @@ module _ (r p t : List ℕ) (room : ℕ) where
         row15Plain = λ h. where-false (λ n. n t);
         row16Plain = λ n h. absurd (n t);
         row16Echo = λ h. over-as room (length (echoReply4 r p)) 42 (reply4-size r p);
-        never = (refl, (refl, (refl, tt)));
+        never = (refl, (refl, (refl, (refl, tt))));
       }
 
   gPdu4-given : Other (drop 20 p) → Octets p → Rule.p r ≤ 7 → Rule.q r ≤ 12
@@ -341,7 +345,7 @@ module _ (r p t : List ℕ) (room : ℕ) where
         row15Plain = λ h. where-true other (over-as 65535 payload (length inner) (plain-payload ws inner (ln ∙ h)));
         row16Plain = λ e h. over-as room (length (d4Packet r c)) (40 + length inner) (w .plain h .ipv6 .size);
         row16Echo = λ t. absurd (other t);
-        never = (refl, (refl, (refl, tt)));
+        never = (refl, (refl, (refl, (refl, tt))));
       }
 
   d4-given : Octets p → Rule.p r ≤ 7 → Rule.q r ≤ 12 → GivenD4 r p room (λ n. applies n (rowsWith4 (decideD4 r p)))

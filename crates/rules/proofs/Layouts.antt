@@ -168,7 +168,7 @@ module _ (e : List ℕ) (o : Octets e) where
     start = refl;
     p = refl;
     q = refl;
-    reserved = refl;
+    zeroChecksum = refl;
     sourcePort = number16 e 10 o;
     prefix = part e 16 16;
     source = part e 32 16;

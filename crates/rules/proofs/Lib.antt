@@ -17,10 +17,12 @@ pub mod Entries
 pub mod Passing
 pub mod Sids
 pub mod FarE6
+pub mod E6Checksums
 pub mod Messages
 pub mod NearGtp6D
 pub mod Sessions
 pub mod Checksums
+pub mod UdpChecksums
 pub mod Splices
 pub mod Fields
 pub mod Echoes

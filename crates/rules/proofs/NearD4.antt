@@ -1,7 +1,7 @@
 -- The call at D4: what a packet that is sent on tells, and what becomes there of the packet that E4 wrote.
 use mathlib.Core.Path.{_≡_, refl, sym, ap, _∙_}
 use mathlib.Core.Bool.{true, cond}
-use mathlib.Core.List.{List, _++_}
+use mathlib.Core.List.{List, [], _++_}
 use Prim.Native.Nat.{ℕ, _+_, _-_, _*_, _/_, _%_, _≤_, _<_}
 use native.Mathlib.Omega.{arith}
 use lib.Dec.{eqb}
@@ -43,7 +43,7 @@ pub record Passed (r p : List ℕ) : Type 0 where
   pub front : Clear (malformed4 (header4 p))
   pub ipv4 : Clear (badHeader4 (header4 p))
   pub tunnel : None (gtp4Rows (header4 p) (datagram (datagramIn4 p)))
-  pub message : None (messageRows (datagram (datagramIn4 p)))
+  pub message : None (messageRows [] (datagram (datagramIn4 p)))
   pub gPdu : None (gPduRows (Rule.direction r) (datagram (datagramIn4 p)))
   pub last : None (d4Rows r (carried4 p .inner))
 
@@ -64,7 +64,7 @@ module _ (r p : List ℕ) where
       let g = datagram (datagramIn4 p) in
       let (n, k) = unless-sent (rowsD4 r p) (Sent (d4Packet r (carried4 p))) x (sym (gPdu-at-d4 t) ∙ h) in
       let last = d4Rows r (carried4 p .inner) in
-      let (a, (b, (c, d))) = none-parts (gtp4Rows (header4 p) g) (messageRows g) (gPduRows (Rule.direction r) g) last n in
+      let (a, (b, (c, d))) = none-parts (gtp4Rows (header4 p) g) (messageRows [] g) (gPduRows (Rule.direction r) g) last n in
       record { front = front; ipv4 = ipv4; tunnel = a; message = b; gPdu = c; last = d }
 
   passed-gPdu : Passed r p → Gtpu.messageType (datagramIn4 p) ≡ gPdu
@@ -77,7 +77,7 @@ module _ (r p : List ℕ) where
       let g = datagram (datagramIn4 p) in
       gPdu-at-d4 (passed-gPdu n)
       ∙ unless-none (rowsD4 r p) (Sent (d4Packet r (carried4 p)))
-      (parts-none (gtp4Rows (header4 p) g) (messageRows g) (gPduRows (Rule.direction r) g) (d4Rows r (carried4 p .inner))
+      (parts-none (gtp4Rows (header4 p) g) (messageRows [] g) (gPduRows (Rule.direction r) g) (d4Rows r (carried4 p .inner))
       (n .tunnel) (n .message) (n .gPdu) (n .last))
 
   -- in uplink R is 0
@@ -152,7 +152,7 @@ module _ (s : Stop) (p d : List ℕ) (k : ℕ) (a : AtRule s d k) (hd : Ipv4.des
 module _ (f : List ℕ) (c : Carried) (v : Valid 4 c) (hs : length (c .source) ≡ 4) (os : Octets (c .source)) (od : Octets (c .destination))
     (ttl : Entry.hopLimit f < 256) (fits : e4TotalLength (c .inner) ≤ 65535) where
   rest : List ℕ
-  rest = datagramOctets (Entry.sourcePort f) (Entry.direction f) (c .args) (c .inner)
+  rest = datagramOctets (Entry.sourcePort f) (Entry.direction f) 0 (c .args) (c .inner)
 
   back-header : header4 (e4Packet f c) ≡ record {
     size = 44 + length (c .inner);
@@ -179,7 +179,7 @@ module _ (f : List ℕ) (c : Carried) (v : Valid 4 c) (hs : length (c .source) �
             (omega arith) ttl hs (v .to) os od k;
       }
 
-  pub back-datagram : datagramIn4 (e4Packet f c) ≡ datagramOctets (Entry.sourcePort f) (Entry.direction f) (c .args) (c .inner)
+  pub back-datagram : datagramIn4 (e4Packet f c) ≡ datagramOctets (Entry.sourcePort f) (Entry.direction f) 0 (c .args) (c .inner)
   unfolding e4Packet
   back-datagram = drop-past (c .source) (c .destination ++ _) 4 4 hs ∙ drop-past (c .destination) _ 4 0 (v .to)
 
@@ -199,7 +199,7 @@ module _ (f : List ℕ) (c : Carried) (v : Valid 4 c) (hs : length (c .source) �
   unfolding carried4
   back-values quiet =
       (λ k. carriedBy (back-tos k) (back-source k) (back-destination k) (back-datagram k))
-      ∙ carriedBy-back (Entry.sourcePort f) (Entry.direction f) c (v .args) quiet
+      ∙ carriedBy-back (Entry.sourcePort f) (Entry.direction f) 0 c (v .args) quiet
 
   -- no row applies to it at D4
   pub back-passed : (r : List ℕ) → Entry.direction f ≡ Rule.direction r
@@ -207,7 +207,7 @@ module _ (f : List ℕ) (c : Carried) (v : Valid 4 c) (hs : length (c .source) �
       → None (d4Rows r (c .inner)) → Passed r (e4Packet f c)
   unfolding gtp4Rows messageRows gPduRows
   back-passed r hd quiet n =
-      let g = ap datagram back-datagram ∙ datagram-back (Entry.sourcePort f) (Entry.direction f) (c .args) (c .inner) (v .args) in
+      let g = ap datagram back-datagram ∙ datagram-back (Entry.sourcePort f) (Entry.direction f) 0 (c .args) (c .inner) (v .args) in
       record {
         front = rw back-header (omega clear);
         ipv4 = rw back-header (omega clear);

@@ -35,7 +35,7 @@ use Rattle.rules.specs.Waypoint.{Routing, routing, step, withRouting, fo
 use Rattle.rules.specs.Gtp6D.{gtp6DPacket, rowsGtp6D, rowsEcho6, decideGPdu6, decideEcho6}
 use Rattle.rules.specs.D.{lastWithArgs, dPath, dPacket, atD}
 use Rattle.rules.specs.Di.{diPath, diPacket, atDi}
-use Rattle.rules.specs.E6.{e6Carried, e6Packet, atE6}
+use Rattle.rules.specs.E6.{e6Carried, e6Checksum, e6Packet, atE6}
 use Rattle.rules.specs.E4.{startBehind, e4Carried, e4Packet, atE4}
 use Rattle.rules.specs.D4.{d4Sid, d4Source, d4Packet, rowsD4, rowsEcho4, decideGPdu4, decideEcho4, atD4}
 use Rattle.rules.specs.Plan.{Plan, sentBy, carryOut, e6Head, e4Head, pathFront, pathHead, tailOf}
@@ -67,32 +67,35 @@ ipv4-before tos total ttl s d r =
     let sum = checksum (ipv4Front tos total ttl (put16 0 (s ++ d))) in
     ap (λ (l : List ℕ). ipv4Front tos total ttl (put16 sum l)) (regroup s d r)
 
-datagram-whole : (port direction : ℕ) (x : Args) (inner : List ℕ)
-    → datagramBefore port direction x (length inner) [] ++ inner ≡ datagramOctets port direction x inner
-datagram-whole port direction x inner = rw append-assoc
+datagram-whole : (port direction k : ℕ) (x : Args) (inner : List ℕ)
+    → datagramBefore port direction k x (length inner) [] ++ inner ≡ datagramOctets port direction k x inner
+datagram-whole port direction k x inner = rw append-assoc
 
 -- E6 AND E4
 
 module _ (e p : List ℕ) where
-  e6-whole : sentBy (e6Head e (Ipv6.trafficClass p) (Ipv6.destination p) (segment p 0) (length (drop (header p .upperAt) p)))
+  e6-whole : sentBy (e6Head e (Ipv6.trafficClass p) (Ipv6.destination p) (segment p 0) (length (drop (header p .upperAt) p))
+      (e6Checksum e (segment p 0) (argsAt (Ipv6.destination p) (Entry.start e)) (drop (header p .upperAt) p)))
       (header p .upperAt) p
       ≡ e6Packet e (e6Carried e p)
   unfolding e6Head e6Packet e6Carried
   e6-whole =
       let inner = drop (header p .upperAt) p in
       let x = argsAt (Ipv6.destination p) (Entry.start e) in
-      let d = datagramBefore (Entry.sourcePort e) (Entry.direction e) x (length inner) [] in
+      let sum = e6Checksum e (segment p 0) x inner in
+      let d = datagramBefore (Entry.sourcePort e) (Entry.direction e) sum x (length inner) [] in
       let h = ipv6 (Ipv6.trafficClass p) (24 + length inner) udpProtocol (Entry.hopLimit e) (Entry.source e) (segment p 0) [] in
       append-assoc h d inner
-      ∙ ap (λ (l : List ℕ). h ++ l) (datagram-whole (Entry.sourcePort e) (Entry.direction e) x inner)
+      ∙ ap (λ (l : List ℕ). h ++ l) (datagram-whole (Entry.sourcePort e) (Entry.direction e) sum x inner)
       ∙ ipv6-before (Ipv6.trafficClass p) (24 + length inner) udpProtocol (Entry.hopLimit e) (Entry.source e) (segment p 0)
-      (datagramOctets (Entry.sourcePort e) (Entry.direction e) x inner)
+      (datagramOctets (Entry.sourcePort e) (Entry.direction e) sum x inner)
 
   pub e6-sent : sentBy (e6Plan e p .head) (e6Plan e p .place) p ≡ e6Packet e (e6Carried e p)
   unfolding e6Plan
   e6-sent =
       let head = e6Head e (Ipv6.trafficClass p) (Ipv6.destination p) (segment p 0) in
-      ap (λ (n : ℕ). sentBy (head n) (header p .upperAt) p) (sym (length-drop (header p .upperAt) p)) ∙ e6-whole
+      let sum = e6Checksum e (segment p 0) (argsAt (Ipv6.destination p) (Entry.start e)) (drop (header p .upperAt) p) in
+      ap (λ (n : ℕ). sentBy (head n sum) (header p .upperAt) p) (sym (length-drop (header p .upperAt) p)) ∙ e6-whole
 
   pub e6-carried-out : carryOut (e6Plan e p) p ≡ atE6 e p
   unfolding atE6 e6Plan
@@ -107,12 +110,12 @@ module _ (e p : List ℕ) where
       let x = argsAt (Ipv6.destination p) (startBehind (Entry.p e)) in
       let s = window (Ipv6.source p) (Entry.q e) 4 in
       let t = window (Ipv6.destination p) (Entry.p e) 4 in
-      let d = datagramBefore (Entry.sourcePort e) (Entry.direction e) x (length inner) [] in
+      let d = datagramBefore (Entry.sourcePort e) (Entry.direction e) 0 x (length inner) [] in
       let h = ipv4 (Ipv6.trafficClass p) (44 + length inner) (Entry.hopLimit e) s t [] in
       append-assoc h d inner
-      ∙ ap (λ (l : List ℕ). h ++ l) (datagram-whole (Entry.sourcePort e) (Entry.direction e) x inner)
+      ∙ ap (λ (l : List ℕ). h ++ l) (datagram-whole (Entry.sourcePort e) (Entry.direction e) 0 x inner)
       ∙ ipv4-before (Ipv6.trafficClass p) (44 + length inner) (Entry.hopLimit e) s t
-      (datagramOctets (Entry.sourcePort e) (Entry.direction e) x inner)
+      (datagramOctets (Entry.sourcePort e) (Entry.direction e) 0 x inner)
 
   pub e4-sent : sentBy (e4Plan e p .head) (e4Plan e p .place) p ≡ e4Packet e (e4Carried e p)
   unfolding e4Plan
@@ -227,7 +230,7 @@ module _ (tail : ℕ) (e policy p : List ℕ) (h : 1 ≤ tail) (k : tail ≤ 2) 
 
       go : (echo : Bool) → carryOut (cond echo (echoPlan6 e p) (gPduPlan6 tail e policy p)) p
           ≡ outcome (cond echo (decideEcho6 e p) (decideGPdu6 e path (gtp6DPacket e path (carried6 p)) p))
-      go true = ap (λ (x : List ℕ). unless (rowsEcho6 p) (Sent x)) (all-head (echoReply6 e p) p)
+      go true = ap (λ (x : List ℕ). unless (rowsEcho6 e p) (Sent x)) (all-head (echoReply6 e p) p)
       go false = ap (λ (x : List ℕ). unless (rowsGtp6D e path p) (Sent x)) gPdu6-sent
 
   -- by the type of the message

@@ -16,7 +16,7 @@ use Rattle.rules.specs.Ipv4 as Ipv4
 use Rattle.rules.specs.Srh as Srh
 use Rattle.rules.specs.Gtpu as Gtpu
 use Rattle.rules.specs.Args.{argsAt}
-use Rattle.rules.specs.Sound.{sound, entryLimit, entrySound, behaviourKnown}
+use Rattle.rules.specs.Sound.{sound, entryLimit, entrySound, behaviourKnown, directionKnown}
 use Rattle.rules.specs.Match.{matchEntry, matchRule}
 use Rattle.rules.specs.Answer.{Decision, Sent, unless, outcome, inRoom, roomRow, lengthRow}
 use Rattle.rules.specs.Header.{header, malformed, hasSrh, badChain}
@@ -25,7 +25,7 @@ use Rattle.rules.specs.Gtp6D.{decideGtp6D}
 use Rattle.rules.specs.Waypoint.{forwarded, underway, waypointRows, stepRows, atWaypoint}
 use Rattle.rules.specs.D.{dPath, dPacket, atD}
 use Rattle.rules.specs.Di.{diPath, diPacket, atDi}
-use Rattle.rules.specs.E6.{e6Carried, e6Packet, rowsE6, atE6}
+use Rattle.rules.specs.E6.{e6Carried, e6Payload, e6Packet, e6Rows, rowsE6, atE6}
 use Rattle.rules.specs.E4.{startBehind, e4Carried, e4TotalLength, e4Packet, e4Rows, rowsE4, atE4}
 use Rattle.rules.specs.D4.{d4Packet, rowsD4, atD4}
 use Rattle.rules.specs.Header4.{header4}
@@ -39,12 +39,14 @@ use Rattle.rules.specs.declared.Found.the-variants.{At, Nothing}
 use Rattle.rules.proofs.Windows.{window-length, octets-window}
 use Rattle.rules.proofs.Conditions.{and-left, conjunct}
 use Rattle.rules.proofs.Rows.{Clear, read, none-back, unless-sent, sent-settle}
-use Rattle.rules.proofs.Tables.{found-entry, found-d, found-di, found-rule}
+use Rattle.rules.proofs.SoundTables.{octets-entry}
+use Rattle.rules.proofs.Tables.{found-entry, found-d, found-di, found-e6, found-rule}
 use Rattle.rules.specs.SoundRecord.{SoundPolicy}
 use Rattle.rules.proofs.Deciding.{settled6, settled4, at-found-entry, at-found-rule, at-no-entry, at-no-rule}
 use Rattle.rules.proofs.Entries.{at-waypoint, at-d, at-di, at-e6, at-e4}
 use Rattle.rules.proofs.Sids.{Fits}
 use Rattle.rules.proofs.FarE6.{Valid}
+use Rattle.rules.proofs.E6Checksums.{e6Carried-octets, direction-small}
 use Rattle.rules.proofs.NearGtp6D.{sent-passed, carried6-valid}
 use Rattle.rules.proofs.NearD4.{carried4-valid, carried4-source, gPdu-at-d4}
 use Rattle.rules.proofs.Echoes.{taken6, taken4, echo-sent6, echo-sent4, echo6-written, echo4-written}
@@ -110,12 +112,16 @@ module _ (e : List ℕ) (path : List (List ℕ)) (made p x : List ℕ) (h : outc
   unfolding header
   echo6-sent o t = rw (echo-sent6 e path made p x t h) at (echo6-written e p o)
 
-e6-sent : (e p x : List ℕ) → Octets p → atE6 e p ≡ Sent x → WrittenE6 e (e6Carried e p) x
-unfolding atE6
-e6-sent e p x o h =
+e6-sent : (e p x : List ℕ) → Octets p → Octets e → directionKnown (Entry.direction e) ≡ true → atE6 e p ≡ Sent x
+    → WrittenE6 e (e6Carried e p) x
+unfolding atE6 rowsE6
+e6-sent e p x o oe d h =
     let (n, k) = unless-sent (rowsE6 e p) (Sent (e6Packet e (e6Carried e p))) x h in
+    let m = none-back (e6Rows e (header p)) (lengthRow (e6Payload (e6Carried e p .inner)) ∷ []) n in
     let q : e6Packet e (e6Carried e p) ≡ x = cc in
-    rw q at (e6-written e (e6Carried e p) (e6Carried-valid e p o))
+    rw q at
+    (e6-written e (e6Carried e p) (e6Carried-valid e p o) (e6Carried-octets e p o) oe (direction-small (Entry.direction e) d)
+    (omega (read, m)))
 
 e4-sent : (e p x : List ℕ) → Octets p → Entry.hopLimit e < 256 → atE4 e p ≡ Sent x → WrittenE4 e (e4Carried e p) x
 unfolding atE4 rowsE4 e4Carried
@@ -183,7 +189,8 @@ sent6-written p t room x op ot h =
               waypoint = λ b. waypoint-sent p x (sym (at-waypoint t e p b) ∙ k);
               d = λ b q. d-sent e y p x op (found-d entryLimit t to i s m b .policy) front q (sym (at-d t e p b) ∙ k);
               di = λ b q. di-sent e y p x op (found-di entryLimit t to i s m b .policy) front q (sym (at-di t e p b) ∙ k);
-              e6 = λ b. e6-sent e p x op (sym (at-e6 t e p b) ∙ k);
+              e6 = λ b.
+                  e6-sent e p x op (octets-entry t ot i) (found-e6 entryLimit t to i s m b .direction) (sym (at-e6 t e p b) ∙ k);
               e4 = λ b. e4-sent e p x op (entry-ttl t i ot) (sym (at-e4 t e p b) ∙ k);
               takenD = λ b. taken-behind e (dPath y c) (dPacket e y c) p x (sym (at-d t e p b) ∙ k);
               takenDi = λ b. taken-behind e (diPath y c) (diPacket e y c) p x (sym (at-di t e p b) ∙ k);

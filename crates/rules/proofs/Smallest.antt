@@ -161,20 +161,36 @@ goes-by d o = record {
 
 -- BY SIZE
 
--- of two numbers the smaller has the earlier place; but only the numbers up to 10 stand before 17
+-- of two numbers the smaller has the earlier place; but only the numbers up to 10 stand before 17, and those up to 9 before 18
 inOrder : (m n : ℕ) → Bool
-inOrder m n = whereUsed (leb 1 m) (whereUsed (not (eqb n 17) || leb m 10) (ltb (place m) (place n)))
+inOrder m n =
+    whereUsed (leb 1 m) (whereUsed (not (eqb n 17) || leb m 10) (whereUsed (not (eqb n 18) || leb m 9) (ltb (place m) (place n))))
 
-all-in-order : all (λ n. all (λ m. inOrder m n) n) 18 ≡ true
+all-in-order : all (λ n. all (λ m. inOrder m n) n) 19 ≡ true
 unfolding all place inOrder
 all-in-order = refl
 
-pub smaller-before : (m n : ℕ) → 1 ≤ m → m < n → n ≤ 17 → (n ≡ 17 → m ≤ 10) → place m < place n
+pub smaller-before : (m n : ℕ) → 1 ≤ m → m < n → n ≤ 18 → (n ≡ 17 → m ≤ 10) → (n ≡ 18 → m ≤ 9) → place m < place n
 unfolding inOrder
-smaller-before m n l h b c =
-    let o = all-at (λ m. inOrder m n) n m (all-at (λ n. all (λ m. inOrder m n) n) 18 n all-in-order (omega arith)) h in
-    ltb-true _ _ (where-used _ _ (where-used _ _ o (le-leb 1 m l)) (named (ℕ-discrete n 17)))
+smaller-before m n l h b c d =
+    let o = all-at (λ m. inOrder m n) n m (all-at (λ n. all (λ m. inOrder m n) n) 19 n all-in-order (omega arith)) h in
+    ltb-true _ _ (where-used _ _ (where-used _ _ (where-used _ _ o (le-leb 1 m l)) (named 17 10 c)) (named 18 9 d))
   where
-    named : Dec (n ≡ 17) → not (eqb n 17) || leb m 10 ≡ true
-    named (yes e) = rw (eq-eqb n 17 e, le-leb m 10 (c e))
-    named (no d) = rw (ne-eqb n 17 d)
+    named : (k most : ℕ) → (n ≡ k → m ≤ most) → not (eqb n k) || leb m most ≡ true
+    named k most c = go (ℕ-discrete n k)
+      where
+        go : Dec (n ≡ k) → not (eqb n k) || leb m most ≡ true
+        go (yes e) = rw (eq-eqb n k e, le-leb m most (c e))
+        go (no d) = rw (ne-eqb n k d)
+
+-- 18 stands before the numbers from 10 to 17
+fromTen : (n : ℕ) → Bool
+fromTen n = whereUsed (leb 10 n) (ltb (place 18) (place n))
+
+all-from-ten : all fromTen 18 ≡ true
+unfolding all place fromTen
+all-from-ten = refl
+
+pub checksum-before : (n : ℕ) → 10 ≤ n → n ≤ 17 → place 18 < place n
+unfolding fromTen
+checksum-before n l m = ltb-true _ _ (where-used _ _ (all-at fromTen 18 n all-from-ten (omega arith)) (le-leb 10 n l))

@@ -1,9 +1,9 @@
 -- A table of octets is sound exactly where SoundTable says so: a law for the value of a field, for each record, and for the table.
 use mathlib.Core.Path.{_≡_, refl, sym, ap, _∙_}
 use mathlib.Core.Logic.{_≢_}
-use mathlib.Core.Bool.{Bool, true, false, _&&_, false≢true}
+use mathlib.Core.Bool.{Bool, true, false, not, _&&_, false≢true}
 use mathlib.Core.List.{List}
-use Prim.Native.Nat.{ℕ, _*_, _/_, _%_, _≤_}
+use Prim.Native.Nat.{ℕ, zero, suc, _*_, _/_, _%_, _≤_}
 use native.Mathlib.Omega.{arith}
 use lib.Dec.{eqb, leb, ltb}
 use borrow.Author.Tests.{eqb-true, eqb-false, eq-eqb, ne-eqb, not-true, leb-true}
@@ -18,9 +18,10 @@ use Rattle.rules.specs.Policy as Policy
 use Rattle.rules.specs.Sound.{directionKnown, sessionKnown, startWithin, sidsWithin, reservedClear, behaviourKnown, usesSession}
 use Rattle.rules.specs.Sound.{usesPolicy, usesStart, usesPlaces, headerConditions, entryConditions, ruleConditions, policyConditions}
 use Rattle.rules.specs.Sound.{headerSound, entrySound, ruleSound, policySound, sameEntryPrefix, sameRulePrefix, sound, entryLimit}
+use Rattle.rules.specs.Sound.{every, markKnown, entryMarks}
 use Rattle.rules.specs.Fault.{fault}
 use Rattle.rules.specs.SoundTable.{Kind, waypoint, d, di, e6, e4, Direction, downlink, uplink, SessionType, ipv4, ipv6}
-use Rattle.rules.specs.SoundTable.{ipv4v6, ethernet, ArgsStart, RightEntry, RightRule, RightPolicy, SoundTable}
+use Rattle.rules.specs.SoundTable.{ipv4v6, ethernet, ArgsStart, Mark, RightEntry, RightRule, RightPolicy, SoundTable}
 use Rattle.rules.proofs.Windows.{octets-window}
 use Rattle.rules.proofs.Bits.{clear-past, past-clear, windows-one}
 use Rattle.rules.proofs.Conditions.{and-left, and-right, and-both, conjunct, Holds, _also_, every-holds, holds-every, holding}
@@ -82,6 +83,18 @@ start-known x = (known, back)
     back : ArgsStart x → startWithin x ≡ true
     back r = and-both (eqb (x % 8) 0) _ (omega meeting) (omega meeting)
 
+mark-known : (x : ℕ) → Exactly (markKnown x) (Mark x)
+mark-known x = (known x, back)
+  where
+    known : (x : ℕ) → markKnown x ≡ true → Mark x
+    known zero h = Mark.unset refl
+    known (suc zero) h = Mark.set refl
+    known (suc (suc x)) h = absurd (omega (holding, h))
+
+    back : Mark x → markKnown x ≡ true
+    back (Mark.unset e) = rw e
+    back (Mark.set e) = rw e
+
 -- AN ENTRY
 
 module _ (count : ℕ) (e : List ℕ) (o : Octets e) where
@@ -91,11 +104,16 @@ module _ (count : ℕ) (e : List ℕ) (o : Octets e) where
     λ n. rw (ne-eqb (Entry.behaviour e) end (λ q. n (omega arith))),
   )
 
+  -- octet 9 is no mark
+  unmarked : Entry.behaviour e ≢ 69 → Entry.behaviour e ≢ 70 → not (usesPolicy e) ≡ true
+  unmarked a b = rw (ne-eqb (Entry.behaviour e) endMGtp6D a, ne-eqb (Entry.behaviour e) endMGtp6DDi b)
+
   entry-said : entrySound count e ≡ true → RightEntry count e
   unfolding entrySound
   entry-said h =
+      let (mark, _) = every-holds (entryMarks e) (and-right (every (entryConditions count e)) _ h) in
       let (kind, (bits, (clear, (hops, (direction, (session, (policy, (start, (args, (p, (q, (address, (reserved, _))))))))))))) =
-      every-holds (entryConditions count e) h in
+      every-holds (entryConditions count e) (and-left (every (entryConditions count e)) _ h) in
       record {
         kind = kind-known e .0 kind;
         prefixLength = omega holding;
@@ -110,13 +128,16 @@ module _ (count : ℕ) (e : List ℕ) (o : Octets e) where
         pOfE4 = λ b. omega (holding, where-used (usesPlaces e) _ p (rw b));
         qOfE4 = λ b. omega (holding, where-used (usesPlaces e) _ q (rw b));
         prefixOfE4 = λ b. omega (holding, where-used (usesPlaces e) _ address (rw b));
-        reserved = omega holding;
+        zeroChecksumOfD = λ b. mark-known _ .0 (where-used (usesPolicy e) _ mark (rw b));
+        zeroChecksumOfDi = λ b. mark-known _ .0 (where-used (usesPolicy e) _ mark (rw b));
+        reserved = λ a b. omega (holding, where-used (not (usesPolicy e)) _ reserved (unmarked a b));
       }
 
   said-entry : RightEntry count e → entrySound count e ≡ true
   unfolding entrySound
   said-entry r =
-      holds-every (entryConditions count e)
+      and-both (every (entryConditions count e)) _
+      (holds-every (entryConditions count e)
       (kind-known e .1 (r .kind)
       also (omega meeting)
       also past-clear (Entry.prefix e) 16 _ (octets-window e 16 16 o) (λ b l k. r .prefix b (omega arith) k)
@@ -129,9 +150,20 @@ module _ (count : ℕ) (e : List ℕ) (o : Octets e) where
       also used-where (usesPlaces e) _ (λ u. omega (meeting, r .pOfE4 (omega holding)))
       also used-where (usesPlaces e) _ (λ u. omega (meeting, r .qOfE4 (omega holding)))
       also used-where (usesPlaces e) _ (λ u. omega (meeting, r .prefixOfE4 (omega holding)))
-      also (omega meeting)
-      also tt)
+      also used-where (not (usesPolicy e)) _ reserved
+      also tt))
+      (holds-every (entryMarks e) (used-where (usesPolicy e) _ mark also tt))
     where
+      reserved : not (usesPolicy e) ≡ true → reservedClear (Entry.zeroChecksum e) ≡ true
+      reserved u =
+          let n = not-true (usesPolicy e) u in
+          eq-eqb _ 0 (r .reserved (λ b. false≢true (sym n ∙ rw b)) (λ b. false≢true (sym n ∙ rw b)))
+
+      mark : usesPolicy e ≡ true → markKnown (Entry.zeroChecksum e) ≡ true
+      mark u =
+          or-cases (eqb (Entry.behaviour e) endMGtp6D) _ u (λ k. mark-known _ .1 (r .zeroChecksumOfD (omega holding)))
+          (λ k. mark-known _ .1 (r .zeroChecksumOfDi (omega holding)))
+
       named : usesPolicy e ≡ true → ltb (Entry.policy e) count ≡ true
       named u =
           or-cases (eqb (Entry.behaviour e) endMGtp6D) _ u (λ k. omega (meeting, r .policyOfD (omega holding)))
@@ -230,7 +262,7 @@ module _ (m n : ℕ) (s r : List ℕ) (w : ℕ) where
       not-so false n = refl
 
 module _ (t : List ℕ) (o : Octets t) where
-  octets-entry : (i : ℕ) → Octets (entryAt t i)
+  pub octets-entry : (i : ℕ) → Octets (entryAt t i)
   unfolding entryAt
   octets-entry i = octets-window t _ _ o
 

@@ -9,12 +9,12 @@ use Rattle.rules.specs.Assigned.{endMGtp6D, endMGtp6DDi, endMGtp6E, endM
 use Rattle.rules.specs.Table.{entries, policies, entryAt, ruleAt, policyAt}
 use Rattle.rules.specs.Entry as Entry
 use Rattle.rules.specs.Match.{matchEntry, matchRule}
-use Rattle.rules.specs.Sound.{directionKnown, sessionKnown, usesSession, usesPolicy, usesStart, usesPlaces}
+use Rattle.rules.specs.Sound.{every, directionKnown, sessionKnown, usesSession, usesPolicy, usesStart, usesPlaces}
 use Rattle.rules.specs.Sound.{entryConditions, ruleConditions, entrySound, ruleSound, policySound, soundWithin}
 use Rattle.rules.specs.SoundRecord.{SoundPolicy, SoundGtp6D, SoundE6, SoundE4, SoundRule}
 use Rattle.rules.specs.SoundTable.{ArgsStart, RightPolicy}
 use Rattle.rules.specs.declared.Found.the-variants.{At}
-use Rattle.rules.proofs.Conditions.{conjunct, Holds, every-holds, holding, where-used, sound-parts}
+use Rattle.rules.proofs.Conditions.{and-left, conjunct, Holds, every-holds, holding, where-used, sound-parts}
 use Rattle.rules.proofs.SoundTables.{start-known, right-policy}
 use Rattle.rules.proofs.Longest.{matched-entry, matched-rule}
 
@@ -23,7 +23,7 @@ use Rattle.rules.proofs.Longest.{matched-entry, matched-rule}
 module _ (policies : ℕ) (e : List ℕ) (h : entrySound policies e ≡ true) where
   conditions : Holds (entryConditions policies e)
   unfolding entrySound
-  conditions = every-holds (entryConditions policies e) h
+  conditions = every-holds (entryConditions policies e) (and-left (every (entryConditions policies e)) _ h)
 
   sound-direction : usesSession e ≡ true → directionKnown (Entry.direction e) ≡ true
   unfolding entrySound

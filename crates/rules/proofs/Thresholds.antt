@@ -5,7 +5,8 @@ use mathlib.Core.List.{List, [], _∷_, _++_}
 use Prim.Native.Nat.{ℕ, _+_}
 use lib.Dec.{T, eqb}
 use lib.ListN.{length, take, replicate}
-use Rattle.rules.specs.Octets.{put16}
+use Rattle.rules.specs.Octets.{put16, splice}
+use Rattle.rules.specs.UdpChecksum.{udpChecksum6}
 use Rattle.rules.specs.Assigned.{endMGtp6D}
 use Rattle.rules.specs.Checksum.{checksum}
 use Rattle.rules.specs.Answer.{Outcome, Sent, Refused}
@@ -50,8 +51,12 @@ echo flags a b c d rest =
 
 -- AT EACH KIND OF ENTRY, AND AT D4
 
+-- where D allows a UDP checksum of zero, and where it does not
 abbrev pub tableD : List ℕ
-tableD = table endMGtp6D 0
+tableD = splice (table endMGtp6D 0) 25 (1 ∷ [])
+
+abbrev pub strictD : List ℕ
+strictD = table endMGtp6D 0
 
 abbrev pub answer : List ℕ → ℕ
 answer p = numberOf (translate6 p tableD 300)
@@ -66,16 +71,30 @@ atE6 left last upper = answer (routed 64 (sidOf 1) upper 4 left last [])
 abbrev pub atD : (datagram : List ℕ) → ℕ
 atD datagram = answer (plain6 17 gateway6 datagram)
 
+abbrev pub strictly : (datagram : List ℕ) → ℕ
+strictly datagram = numberOf (translate6 (plain6 17 gateway6 datagram) strictD 300)
+
+-- a datagram with its checksum, and with something added to that; with some octets as its checksum
+abbrev pub checksumOf : (datagram : List ℕ) → ℕ
+checksumOf datagram = udpChecksum6 (sidOf 0x63) gateway6 datagram
+
+abbrev pub summed : (more : ℕ) (datagram : List ℕ) → List ℕ
+summed more datagram = splice datagram 6 (put16 (checksumOf datagram + more) [])
+
 -- at D with IPv4v6 sessions and a policy of some SIDs: a G-PDU with an inner packet
 abbrev pub tableEither : (sids : ℕ) → List ℕ
 tableEither sids =
-    let entry : List ℕ = 69 ∷ 48 ∷ 64 ∷ 0 ∷ 3 ∷ 0 ∷ 0 ∷ 0 ∷ 0 ∷ 0 ∷ put16 2152 (zeros 4 ++ (network 0xa ++ (sidOf 0x63 ++ zeros 16))) in
+    let entry : List ℕ = 69 ∷ 48 ∷ 64 ∷ 0 ∷ 3 ∷ 0 ∷ 0 ∷ 0 ∷ 0 ∷ 1 ∷ put16 2152 (zeros 4 ++ (network 0xa ++ (sidOf 0x63 ++ zeros 16))) in
     Samples.header 1 0 1 (entry ++ Samples.policy (replicate sids (sidOf 1)))
 
 abbrev pub tunnelled : (inner : List ℕ) → List ℕ
 tunnelled inner =
     let size = length inner in
     message 2152 (24 + size) 0x34 255 (8 + size) (0 ∷ 0 ∷ 0 ∷ 0x85 ∷ 1 ∷ 0 ∷ 0x49 ∷ 0 ∷ inner)
+
+-- two inner octets with which the words of such a datagram add up to FFFF
+abbrev pub fitting : List ℕ
+fitting = put16 (checksumOf (tunnelled (0 ∷ 0 ∷ []))) []
 
 abbrev pub either : (inner : List ℕ) → ℕ
 either inner = numberOf (translate6 (plain6 17 gateway6 (tunnelled inner)) (tableEither 1) 300)
@@ -185,6 +204,31 @@ samples =
     ∷ is (atD (zeros 7)) 9
     ∷ is (atD (message 2152 27 0x34 255 12 (0 ∷ 0 ∷ 0 ∷ 0x85 ∷ 1 ∷ 0 ∷ 0x49 ∷ 0 ∷ zeros 4))) 9
     ∷ is (atD (message 2152 29 0x34 255 12 (0 ∷ 0 ∷ 0 ∷ 0x85 ∷ 1 ∷ 0 ∷ 0x49 ∷ 0 ∷ zeros 4))) 9
+    -- row 18: zero where it is allowed and where not; a sum that is right, and one that is not; an odd octet; behind an SRH; an Echo Request
+    ∷ is (atD (gpdu 0x34 0x85 1 0 0)) 0
+    ∷ is (strictly (gpdu 0x34 0x85 1 0 0)) 18
+    ∷ is (strictly (summed 0 (gpdu 0x34 0x85 1 0 0))) 0
+    ∷ is (strictly (summed 1 (gpdu 0x34 0x85 1 0 0))) 18
+    ∷ is (atD (summed 0 (gpdu 0x34 0x85 1 0 0))) 0
+    ∷ is (atD (summed 1 (gpdu 0x34 0x85 1 0 0))) 18
+    ∷ is (strictly (summed 0 (tunnelled (0x45 ∷ [])))) 0
+    ∷ is (strictly (summed 1 (tunnelled (0x45 ∷ [])))) 18
+    ∷ is (checksumOf (tunnelled (0x45 ∷ []))) (checksumOf (tunnelled (0x45 ∷ 0 ∷ [])) + 3)
+    ∷ is (numberOf (translate6 (routed 64 gateway6 17 4 0 1 (summed 0 (gpdu 0x34 0x85 1 0 0))) strictD 300)) 0
+    ∷ is (numberOf (translate6 (routed 64 gateway6 17 4 0 1 (summed 1 (gpdu 0x34 0x85 1 0 0))) strictD 300)) 18
+    ∷ is (strictly (summed 0 (echo 0x32 0 0 0 0 (zeros 4)))) 0
+    ∷ is (strictly (echo 0x32 0 0 0 0 (zeros 4))) 18
+    -- a computed 0 is sent as FFFF, which is right there alone
+    ∷ is (checksumOf (tunnelled fitting)) 0xffff
+    ∷ is (strictly (summed 0 (tunnelled fitting))) 0
+    ∷ is (strictly (tunnelled fitting)) 18
+    ∷ is (strictly (splice (tunnelled (0 ∷ 0 ∷ [])) 6 (0xff ∷ 0xff ∷ []))) 18
+    -- 8 and 9 are before 18; 10, 11 and 17 behind it
+    ∷ is (strictly (message 2151 28 0x34 255 12 (zeros 12))) 8
+    ∷ is (strictly (message 2152 27 0x34 255 12 (zeros 12))) 9
+    ∷ is (strictly (gpdu 0x54 0x85 1 0 0)) 18
+    ∷ is (strictly (message 2152 16 0x30 2 0 [])) 18
+    ∷ is (strictly (echo 0x30 0 0 0 0 [])) 18
     -- row 10: eight octets, twelve with any of E, S, PN; version, PT, length
     ∷ is (atD (put16 2152 (put16 2152 (put16 8 (put16 0 []))))) 10
     ∷ is (atD (put16 2152 (put16 2152 (put16 15 (put16 0 (0x30 ∷ 255 ∷ 0 ∷ 0 ∷ 1 ∷ 2 ∷ 3 ∷ [])))))) 10

@@ -62,10 +62,10 @@ roomRow room result = row (ltb room (length result) ∷ []) 16
 
 -- THE PLACES OF ROWS
 
--- The answer numbers in the order of their rows: of those that apply the first is given. 17 has the place of 11, for a type of message
--- that has no row 11; the others stand in the order of size.
+-- The answer numbers in the order of their rows: of those that apply the first is given. 18 is directly behind 9, and 17 has the place of
+-- 11, for a type of message that has no row 11; the others stand in the order of size.
 abbrev pub places : List ℕ
-places = 1 ∷ 2 ∷ 3 ∷ 4 ∷ 5 ∷ 6 ∷ 7 ∷ 8 ∷ 9 ∷ 10 ∷ 17 ∷ 11 ∷ 12 ∷ 13 ∷ 14 ∷ 15 ∷ 16 ∷ []
+places = 1 ∷ 2 ∷ 3 ∷ 4 ∷ 5 ∷ 6 ∷ 7 ∷ 8 ∷ 9 ∷ 18 ∷ 10 ∷ 17 ∷ 11 ∷ 12 ∷ 13 ∷ 14 ∷ 15 ∷ 16 ∷ []
 
 -- where a number first stands in a list; at its end where it does not
 abbrev pub position : (n : ℕ) → List ℕ → ℕ

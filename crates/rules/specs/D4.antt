@@ -42,18 +42,18 @@ abbrev pub d4Rows : (r inner : List ℕ) → List Row
 d4Rows r inner =
     innerRows (Rule.session r) (length inner) (octet inner 0) (pastWaypointsPayload (Rule.waypoints r) inner)
 
--- all rows of D4, 8 to 15, for any message but an Echo Request; row 11 leaves G-PDUs alone
+-- all rows of D4, 8 to 15, the checksum not verified, for any message but an Echo Request; row 11 leaves G-PDUs alone
 unfoldable pub rowsD4 : (r packet : List ℕ) → List Row
 rowsD4 r packet =
     let g = datagram (datagramIn4 packet) in
-    gtp4Rows (header4 packet) g ++ (messageRows g ++ (gPduRows (Rule.direction r) g ++ d4Rows r (carried4 packet .inner)))
+    gtp4Rows (header4 packet) g ++ (messageRows [] g ++ (gPduRows (Rule.direction r) g ++ d4Rows r (carried4 packet .inner)))
 
 abbrev pub decideGPdu4 : (r packet : List ℕ) → Decision
 decideGPdu4 r packet = record { rows = rowsD4 r packet; packet = d4Packet r (carried4 packet) }
 
 -- all rows of D4 for an Echo Request, 8 to 10 and 17
 unfoldable pub rowsEcho4 : (packet : List ℕ) → List Row
-rowsEcho4 packet = let g = datagram (datagramIn4 packet) in gtp4Rows (header4 packet) g ++ (messageRows g ++ echoRows g)
+rowsEcho4 packet = let g = datagram (datagramIn4 packet) in gtp4Rows (header4 packet) g ++ (messageRows [] g ++ echoRows g)
 
 abbrev pub decideEcho4 : (r packet : List ℕ) → Decision
 decideEcho4 r packet = record { rows = rowsEcho4 packet; packet = echoReply4 r packet }

@@ -1,6 +1,7 @@
--- What is asked of a UDP datagram at D, Di and D4: rows 8 to 15. Row 17, of Echo Requests, is in Echo.antt.
+-- What is asked of a UDP datagram at D, Di and D4: rows 8 to 15. Row 17, of Echo Requests, is in Echo.antt, row
+-- 18, of the UDP checksum, in UdpChecksum.antt.
 use mathlib.Core.Bool.{Bool, not, _&&_}
-use mathlib.Core.List.{List, [], _∷_}
+use mathlib.Core.List.{List, [], _∷_, _++_}
 use Prim.Native.Nat.{ℕ, _+_, _*_, _/_, _%_}
 use lib.Dec.{leb, ltb, eqb}
 use lib.ListN.{length}
@@ -64,9 +65,9 @@ badExtensions g =
 abbrev pub badContainer : (direction : ℕ) → Datagram → List Bool
 badContainer direction g = not (extended g) ∷ differs (g .pduType) direction ∷ []
 
--- rows 9 and 10
-unfoldable pub messageRows : Datagram → List Row
-messageRows g = row (badUdp g) 9 ∷ row (badGtpu g) 10 ∷ []
+-- rows 9 and 10, and between them those of the checksum: row 18 at D and Di, none at D4
+unfoldable pub messageRows : (checksumRows : List Row) → Datagram → List Row
+messageRows checksumRows g = row (badUdp g) 9 ∷ (checksumRows ++ row (badGtpu g) 10 ∷ [])
 
 -- rows 11 to 13
 unfoldable pub gPduRows : (direction : ℕ) → Datagram → List Row

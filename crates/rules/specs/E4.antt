@@ -35,7 +35,7 @@ e4TotalLength inner = 44 + length inner
 unfoldable pub e4Packet : (e : List ℕ) → Carried → List ℕ
 e4Packet e c =
     Ipv4.ipv4 (c .trafficClass) (e4TotalLength (c .inner)) (Entry.hopLimit e) (c .source) (c .destination)
-    (datagramOctets (Entry.sourcePort e) (Entry.direction e) (c .args) (c .inner))
+    (datagramOctets (Entry.sourcePort e) (Entry.direction e) 0 (c .args) (c .inner))
 
 -- rows 5, 7 and 8
 unfoldable pub e4Rows : (e : List ℕ) → Header → List Row

@@ -7,8 +7,9 @@ use Rattle.rules.specs.Assigned.{udpProtocol}
 use Rattle.rules.specs.Entry as Entry
 use Rattle.rules.specs.Ipv6 as Ipv6
 use Rattle.rules.specs.Srh as Srh
-use Rattle.rules.specs.Args.{argsAt}
+use Rattle.rules.specs.Args.{Args, argsAt}
 use Rattle.rules.specs.Gtpu.{datagramOctets}
+use Rattle.rules.specs.UdpChecksum.{udpChecksum6}
 use Rattle.rules.specs.Answer.{Row, row, segmentsLeftRow, upperLayerRow, lengthRow, differs, Decision, Outcome, outcome}
 use Rattle.rules.specs.Header.{header, hasSrh, badChain, beyondHeld}
 use Rattle.rules.specs.Session.{accepts}
@@ -28,10 +29,17 @@ e6Carried e p = record {
 abbrev pub e6Payload : (inner : List ℕ) → ℕ
 e6Payload inner = 24 + length inner
 
+-- what is sent in UDP, with any checksum
+abbrev pub e6Datagram : (e : List ℕ) (checksum : ℕ) (args : Args) (inner : List ℕ) → List ℕ
+e6Datagram e checksum args inner = datagramOctets (Entry.sourcePort e) (Entry.direction e) checksum args inner
+
+unfoldable pub e6Checksum : (e to : List ℕ) (args : Args) (inner : List ℕ) → ℕ
+e6Checksum e to args inner = udpChecksum6 (Entry.source e) to (e6Datagram e 0 args inner)
+
 unfoldable pub e6Packet : (e : List ℕ) → Carried → List ℕ
 e6Packet e c =
     Ipv6.ipv6 (c .trafficClass) (e6Payload (c .inner)) udpProtocol (Entry.hopLimit e) (Entry.source e) (c .destination)
-    (datagramOctets (Entry.sourcePort e) (Entry.direction e) (c .args) (c .inner))
+    (e6Datagram e (e6Checksum e (c .destination) (c .args) (c .inner)) (c .args) (c .inner))
 
 -- rows 5, 7 and 8; row 7 also tests LE (house)
 unfoldable pub e6Rows : (e : List ℕ) → Header → List Row

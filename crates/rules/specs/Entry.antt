@@ -1,6 +1,8 @@
 -- The fields of a SID entry.
+use mathlib.Core.Bool.{Bool}
 use mathlib.Core.List.{List}
 use Prim.Native.Nat.{ℕ}
+use lib.Dec.{eqb}
 use Rattle.rules.specs.Octets.{octet, window, read16}
 
 abbrev pub behaviour : List ℕ → ℕ
@@ -34,8 +36,12 @@ p e = octet e 7
 abbrev pub q : List ℕ → ℕ
 q e = octet e 8
 
-abbrev pub reserved : List ℕ → ℕ
-reserved e = octet e 9
+-- D and Di: 1 where a UDP checksum of zero is allowed inbound; reserved at the others
+abbrev pub zeroChecksum : List ℕ → ℕ
+zeroChecksum e = octet e 9
+
+abbrev pub zeroAllowed : List ℕ → Bool
+zeroAllowed e = eqb (zeroChecksum e) 1
 
 abbrev pub sourcePort : List ℕ → ℕ
 sourcePort e = read16 e 10

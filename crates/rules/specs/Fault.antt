@@ -5,21 +5,26 @@ use Prim.Native.Nat.{ℕ, zero, suc, _+_, _*_}
 use lib.Dec.{eqb}
 use Rattle.rules.specs.Table.{entries, rules, policies, entryAt, ruleAt, policyAt}
 use Rattle.rules.specs.Sound.{headerConditions, entryConditions, ruleConditions, policyConditions, fresh, sameEntryPrefix}
-use Rattle.rules.specs.Sound.{sameRulePrefix, entryLimit}
+use Rattle.rules.specs.Sound.{entryMarks, sameRulePrefix, entryLimit}
 
 -- CONDITIONS
 
--- of conditions with numbers from n on, the number of the first that does not hold; 0 where all hold
-abbrev pub firstBroken : (n : ℕ) → List Bool → ℕ
-firstBroken n [] = 0
-firstBroken n (b ∷ bs) = cond b (firstBroken (suc n) bs) n
+-- of conditions with numbers from n on, the number of the first that does not hold; where all hold, what is broken behind them
+abbrev pub brokenBefore : (n : ℕ) → List Bool → (behind : ℕ) → ℕ
+brokenBefore n [] behind = behind
+brokenBefore n (b ∷ bs) behind = cond b (brokenBefore (suc n) bs behind) n
 
--- the numbers of a record's conditions, from 1 on in their order
+-- 0 where all hold and there is nothing behind them
+abbrev pub firstBroken : (n : ℕ) → List Bool → ℕ
+firstBroken n bs = brokenBefore n bs 0
+
+-- the numbers of a record's conditions, from 1 on in their order; marks have theirs behind that of the repeated prefix, so that no number
+-- changes its meaning
 abbrev pub headerBroken : (limit : ℕ) → List ℕ → ℕ
 headerBroken limit t = firstBroken 1 (headerConditions limit t)
 
 unfoldable pub entryBroken : (policies : ℕ) → List ℕ → ℕ
-entryBroken policies e = firstBroken 1 (entryConditions policies e)
+entryBroken policies e = brokenBefore 1 (entryConditions policies e) (firstBroken 15 (entryMarks e))
 
 unfoldable pub ruleBroken : List ℕ → ℕ
 ruleBroken r = firstBroken 1 (ruleConditions r)

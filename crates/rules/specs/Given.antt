@@ -22,10 +22,13 @@ pub record GoesBy (applies : ℕ → Bool) (o : Outcome) : Type 0 where
   pub sent : (x : List ℕ) → o ≡ Sent x → (n : ℕ) → applies n ≡ false
   pub free : ((n : ℕ) → applies n ≡ false) → (x : List ℕ) × (o ≡ Sent x)
 
--- and it is the smallest, but for 17, whose place is behind 10: where a refusal is given no smaller number applies, for 17 none up to 10
--- (that 11 to 15 do not apply there either is said in Refused.antt, GivenDatagram)
-abbrev pub Smallest : (applies : ℕ → Bool) → Outcome → Type 0
-Smallest applies o = (r : Refusal) → o ≡ Refused r → (n : ℕ) → n < r .number → (r .number ≡ 17 → n ≤ 10) → applies n ≡ false
+-- and it is the smallest, but for 17, whose place is behind 10, and 18, whose place is behind 9: where a refusal is given no smaller number
+-- applies, for 17 none up to 10 (that 11 to 15 do not apply there either is said in Refused.antt, GivenDatagram), for 18 none up to 9; and
+-- 18 does not apply where a number from 10 on is given
+pub record Smallest (applies : ℕ → Bool) (o : Outcome) : Type 0 where
+  pub none : (r : Refusal) → o ≡ Refused r → (n : ℕ) → n < r .number → (r .number ≡ 17 → n ≤ 10) → (r .number ≡ 18 → n ≤ 9)
+      → applies n ≡ false
+  pub checksum : (r : Refusal) → o ≡ Refused r → 10 ≤ r .number → r .number ≤ 17 → applies 18 ≡ false
 
 -- WITH ITS ICMP FIELDS
 
@@ -50,11 +53,11 @@ pub record ReadBack (answer n kind code at octets : ℕ) : Type 0 where
   pub pointer : answer / 0x1000000 % 0x10000 ≡ at
   pub size : answer / 0x10000000000 ≡ octets
 
--- An answer of the list (docs/RULES.md, Answers): 0 with the length of what is sent, or a number from 1 to 17 with its ICMP fields and
+-- An answer of the list (docs/RULES.md, Answers): 0 with the length of what is sent, or a number from 1 to 18 with its ICMP fields and
 -- length 0.
 pub data Listed (refusalOf : ℕ → Refusal) (o : Outcome) : Type 0 where
   sent : (x : List ℕ) → o ≡ Sent x → ReadBack (packed o) 0 0 0 0 (length x) → Listed refusalOf o
-  refused : (n : ℕ) → 1 ≤ n → n ≤ 17 → o ≡ Refused (refusalOf n)
+  refused : (n : ℕ) → 1 ≤ n → n ≤ 18 → o ≡ Refused (refusalOf n)
       → ReadBack (packed o) n (refusalOf n .icmpType) (refusalOf n .icmpCode) (refusalOf n .pointer) 0 → Listed refusalOf o
 
 -- WHAT THE OUTPUT HOLDS AFTERWARDS

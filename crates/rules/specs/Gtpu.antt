@@ -102,7 +102,7 @@ innerOf u = drop (extensionAt + 4 * extensionUnits u) u
 
 -- WHAT IS WRITTEN
 
--- the checksum is an argument; what we write has 0 (house)
+-- the checksum is an argument: over IPv4 it is 0 (house)
 abbrev pub udp : (sourcePort destinationPort size checksum : ℕ) (rest : List ℕ) → List ℕ
 udp sourcePort destinationPort size checksum rest = put16 sourcePort (put16 destinationPort (put16 size (put16 checksum rest)))
 
@@ -122,11 +122,12 @@ gtpu direction args size rest =
     ++ (0 ∷ 0 ∷ 0 ∷ pduSessionContainer ∷ 1 ∷ (direction * 16) ∷ flowOctet direction (args .qfi) (args .reflective) ∷ 0 ∷ rest))
 
 -- with its UDP header: 24 octets before the inner packet
-abbrev pub datagramBefore : (sourcePort direction : ℕ) (args : Args) (size : ℕ) (rest : List ℕ) → List ℕ
-datagramBefore sourcePort direction args size rest = udp sourcePort gtpuPort (24 + size) 0 (gtpu direction args size rest)
+abbrev pub datagramBefore : (sourcePort direction checksum : ℕ) (args : Args) (size : ℕ) (rest : List ℕ) → List ℕ
+datagramBefore sourcePort direction checksum args size rest =
+    udp sourcePort gtpuPort (24 + size) checksum (gtpu direction args size rest)
 
-abbrev pub datagramOctets : (sourcePort direction : ℕ) (args : Args) (inner : List ℕ) → List ℕ
-datagramOctets sourcePort direction args inner = datagramBefore sourcePort direction args (length inner) inner
+abbrev pub datagramOctets : (sourcePort direction checksum : ℕ) (args : Args) (inner : List ℕ) → List ℕ
+datagramOctets sourcePort direction checksum args inner = datagramBefore sourcePort direction checksum args (length inner) inner
 
 -- version 1, PT 1, S only
 abbrev pub echoFlags : ℕ
@@ -138,5 +139,5 @@ echoMessage sequenceNumber =
     echoFlags ∷ echoResponse ∷ put16 6 (0 ∷ 0 ∷ 0 ∷ 0 ∷ put16 sequenceNumber (0 ∷ 0 ∷ recovery ∷ 0 ∷ []))
 
 -- with its UDP header: 22 octets
-abbrev pub echoDatagram : (destinationPort sequenceNumber : ℕ) → List ℕ
-echoDatagram destinationPort sequenceNumber = udp gtpuPort destinationPort 22 0 (echoMessage sequenceNumber)
+abbrev pub echoDatagram : (destinationPort checksum sequenceNumber : ℕ) → List ℕ
+echoDatagram destinationPort checksum sequenceNumber = udp gtpuPort destinationPort 22 checksum (echoMessage sequenceNumber)

@@ -144,7 +144,7 @@ pub record EntryOctets (e : List ℕ) : Type 0 where
   pub start : octet e 6 ≡ Entry.start e
   pub p : octet e 7 ≡ Entry.p e
   pub q : octet e 8 ≡ Entry.q e
-  pub reserved : octet e 9 ≡ Entry.reserved e
+  pub zeroChecksum : octet e 9 ≡ Entry.zeroChecksum e
   pub sourcePort : Number16 e 10 (Entry.sourcePort e)
   pub prefix : Part e 16 16 (Entry.prefix e)
   pub source : Part e 32 16 (Entry.source e)

@@ -19,6 +19,8 @@ pub mod Ipv4
 pub mod Gtpu
 pub mod Layout
 pub mod Answer
+pub mod UdpChecksum
+pub mod AddsUp
 pub mod Header
 pub mod Header4
 pub mod Datagram

@@ -28,7 +28,7 @@ use Rattle.rules.specs.Answer.{Row, Outcome, Sent, outcome, unless}
 use Rattle.rules.specs.Waypoint.{routing, step, withRouting, waypointRows}
 use Rattle.rules.specs.Gtp6D.{gtp6DPacket, rowsGtp6D, rowsEcho6, decideGtp6D}
 use Rattle.rules.specs.D.{lastWithArgs}
-use Rattle.rules.specs.E6.{rowsE6}
+use Rattle.rules.specs.E6.{e6Checksum, rowsE6}
 use Rattle.rules.specs.E4.{startBehind, rowsE4}
 use Rattle.rules.specs.D4.{d4Sid, d4Source, rowsD4, rowsEcho4}
 
@@ -47,22 +47,23 @@ carryOut plan packet = unless (plan .rows) (Sent (sentBy (plan .head) (plan .pla
 
 -- THE FAR END
 
--- E6, for an inner packet of some size: from the entry, the arriving SID and SRH[0]
-unfoldable pub e6Head : (e : List ℕ) (class : ℕ) (sid to : List ℕ) (size : ℕ) → List ℕ
-e6Head e class sid to size =
+-- E6, for an inner packet of some size and the UDP checksum that goes with it: from the entry, the arriving SID and SRH[0]
+unfoldable pub e6Head : (e : List ℕ) (class : ℕ) (sid to : List ℕ) (size checksum : ℕ) → List ℕ
+e6Head e class sid to size checksum =
     ipv6 class (24 + size) udpProtocol (Entry.hopLimit e) (Entry.source e) to []
-    ++ datagramBefore (Entry.sourcePort e) (Entry.direction e) (argsAt sid (Entry.start e)) size []
+    ++ datagramBefore (Entry.sourcePort e) (Entry.direction e) checksum (argsAt sid (Entry.start e)) size []
 
 -- E4, for an inner packet of some size: from the entry, the arriving SID and the arriving source
 unfoldable pub e4Head : (e : List ℕ) (class : ℕ) (sid from : List ℕ) (size : ℕ) → List ℕ
 e4Head e class sid from size =
     ipv4 class (44 + size) (Entry.hopLimit e) (window from (Entry.q e) 4) (window sid (Entry.p e) 4) []
-    ++ datagramBefore (Entry.sourcePort e) (Entry.direction e) (argsAt sid (startBehind (Entry.p e))) size []
+    ++ datagramBefore (Entry.sourcePort e) (Entry.direction e) 0 (argsAt sid (startBehind (Entry.p e))) size []
 
 unfoldable pub e6Plan : (e packet : List ℕ) → Plan
 e6Plan e packet = record {
   rows = rowsE6 e packet;
-  head = e6Head e (Ipv6.trafficClass packet) (Ipv6.destination packet) (Srh.segment packet 0) (length packet - header packet .upperAt);
+  head = e6Head e (Ipv6.trafficClass packet) (Ipv6.destination packet) (Srh.segment packet 0) (length packet - header packet .upperAt)
+      (e6Checksum e (Srh.segment packet 0) (argsAt (Ipv6.destination packet) (Entry.start e)) (drop (header packet .upperAt) packet));
   place = header packet .upperAt;
 }
 
@@ -144,7 +145,7 @@ gPduPlan4 r packet =
 
 -- a reply to an Echo Request is all head: no arriving octet follows
 unfoldable pub echoPlan6 : (e packet : List ℕ) → Plan
-echoPlan6 e packet = record { rows = rowsEcho6 packet; head = echoReply6 e packet; place = length packet }
+echoPlan6 e packet = record { rows = rowsEcho6 e packet; head = echoReply6 e packet; place = length packet }
 
 unfoldable pub echoPlan4 : (r packet : List ℕ) → Plan
 echoPlan4 r packet = record { rows = rowsEcho4 packet; head = echoReply4 r packet; place = length packet }

@@ -19,6 +19,7 @@ use Rattle.rules.specs.Ipv6 as Ipv6
 use Rattle.rules.specs.Srh as Srh
 use Rattle.rules.specs.Ipv4 as Ipv4
 use Rattle.rules.specs.Gtpu as Gtpu
+use Rattle.rules.specs.AddsUp.{AddsUp}
 use Rattle.rules.specs.declared.Found.the-variants.{At}
 
 -- THE UPPER LAYER OF AN IPV6 PACKET: behind the SRH where there is one, else behind the IPv6 header
@@ -133,6 +134,12 @@ pub data BadUdp (u : List ℕ) : Type 0 where
   short : length u < 8 → BadUdp u
   lengthField : Gtpu.udpLength u ≢ length u → BadUdp u
 
+-- 18: over IPv6 the UDP checksum is wrong, or zero where the entry does not allow it
+
+pub data BadChecksum (e p u : List ℕ) : Type 0 where
+  zero : Gtpu.udpChecksum u ≡ 0 → Entry.zeroChecksum e ≢ 1 → BadChecksum e p u
+  wrong : Gtpu.udpChecksum u ≢ 0 → (AddsUp (Ipv6.source p) (Ipv6.destination p) u → ⊥) → BadChecksum e p u
+
 -- 10: GTP-U header behind the UDP header cut short, not version 1 or PT 1, or length disagrees
 
 pub data BadGtpu (u : List ℕ) : Type 0 where
@@ -192,7 +199,7 @@ pub record GivenWaypoint (p : List ℕ) (room : ℕ) (applies : ℕ → Bool) : 
   pub row7 : Exactly (applies 7) (BadLeftWaypoint p)
   pub row8 : Exactly (applies 8) (NotUnderway p)
   pub row16 : 48 ≤ length p → Exactly (applies 16) (room < length p)
-  pub never : Never applies (3 ∷ 9 ∷ 10 ∷ 11 ∷ 12 ∷ 13 ∷ 14 ∷ 15 ∷ 17 ∷ [])
+  pub never : Never applies (3 ∷ 9 ∷ 10 ∷ 11 ∷ 12 ∷ 13 ∷ 14 ∷ 15 ∷ 17 ∷ 18 ∷ [])
 
 -- 9 to 14 and 17 belong to D, Di, D4: a datagram, and the direction and session of the entry or rule. For an Echo Request 17 stands in the
 -- place of 11, and 12 to 15 never apply.
@@ -210,6 +217,7 @@ pub record GivenGtp6D (e p : List ℕ) (segments room : ℕ) (applies : ℕ → 
   pub row5 : Exactly (applies 5) (BadChain p)
   pub row7 : Exactly (applies 7) (SegmentsRemain p)
   pub row8 : Exactly (applies 8) (NotGtpu (upper p) (behind p))
+  pub row18 : length (behind p) < 65536 → Exactly (applies 18) (BadChecksum e p (behind p))
   pub datagram : GivenDatagram (Entry.direction e) (Entry.session e) (behind p) applies
   pub row15 : Exactly (applies 15) (Other (behind p) × (65535 < 8 + 16 * segments + length (Gtpu.innerOf (behind p))))
   pub row16 : Other (behind p) → Exactly (applies 16) (room < 48 + 16 * segments + length (Gtpu.innerOf (behind p)))
@@ -222,7 +230,7 @@ pub record GivenE6 (e p : List ℕ) (room : ℕ) (applies : ℕ → Bool) : Type
   pub row8 : Exactly (applies 8) (OfSession (Entry.session e) (upper p) → ⊥)
   pub row15 : Exactly (applies 15) (65535 < 24 + length (behind p))
   pub row16 : Exactly (applies 16) (room < 64 + length (behind p))
-  pub never : Never applies (3 ∷ 6 ∷ 9 ∷ 10 ∷ 11 ∷ 12 ∷ 13 ∷ 14 ∷ 17 ∷ [])
+  pub never : Never applies (3 ∷ 6 ∷ 9 ∷ 10 ∷ 11 ∷ 12 ∷ 13 ∷ 14 ∷ 17 ∷ 18 ∷ [])
 
 pub record GivenE4 (e p : List ℕ) (room : ℕ) (applies : ℕ → Bool) : Type 0 where
   pub row5 : Exactly (applies 5) (BadChain p)
@@ -230,7 +238,7 @@ pub record GivenE4 (e p : List ℕ) (room : ℕ) (applies : ℕ → Bool) : Type
   pub row8 : Exactly (applies 8) (OfSession (Entry.session e) (upper p) → ⊥)
   pub row15 : Exactly (applies 15) (65535 < 44 + length (behind p))
   pub row16 : Exactly (applies 16) (room < 44 + length (behind p))
-  pub never : Never applies (3 ∷ 6 ∷ 9 ∷ 10 ∷ 11 ∷ 12 ∷ 13 ∷ 14 ∷ 17 ∷ [])
+  pub never : Never applies (3 ∷ 6 ∷ 9 ∷ 10 ∷ 11 ∷ 12 ∷ 13 ∷ 14 ∷ 17 ∷ 18 ∷ [])
 
 -- D4, where the packet that is sent is an IPv6 header and a payload; with no waypoints there is no SRH. A reply has 42 octets.
 pub record GivenD4 (r p : List ℕ) (room : ℕ) (applies : ℕ → Bool) : Type 0 where
@@ -244,7 +252,7 @@ pub record GivenD4 (r p : List ℕ) (room : ℕ) (applies : ℕ → Bool) : Type
   pub row16Plain : Other (drop 20 p) → Rule.waypointCount r ≡ 0
       → Exactly (applies 16) (room < 40 + length (Gtpu.innerOf (drop 20 p)))
   pub row16Echo : Echo (drop 20 p) → Exactly (applies 16) (room < 42)
-  pub never : Never applies (5 ∷ 6 ∷ 7 ∷ [])
+  pub never : Never applies (5 ∷ 6 ∷ 7 ∷ 18 ∷ [])
 
 -- at an entry, by the behaviours' numbers in RFC 8986 and RFC 9433
 pub record GivenAtEntry (t e p : List ℕ) (room : ℕ) (applies : ℕ → Bool) : Type 0 where

@@ -88,6 +88,10 @@ qWithin q = leb q 12
 abbrev pub reservedClear : ℕ → Bool
 reservedClear x = eqb x 0
 
+-- a mark is 0 or 1
+abbrev pub markKnown : ℕ → Bool
+markKnown x = leb x 1
+
 -- AN ENTRY
 
 -- which behaviours use a field
@@ -140,11 +144,15 @@ entryConditions policies e =
     ∷ whereUsed (usesPlaces e) (pWithin (Entry.p e))
     ∷ whereUsed (usesPlaces e) (qWithin (Entry.q e))
     ∷ whereUsed (usesPlaces e) (prefixBeforeAddress e)
-    ∷ reservedClear (Entry.reserved e)
+    ∷ whereUsed (not (usesPolicy e)) (reservedClear (Entry.zeroChecksum e))
     ∷ []
 
+-- that a UDP checksum of zero is allowed is a mark of D and Di
+abbrev pub entryMarks : List ℕ → List Bool
+entryMarks e = whereUsed (usesPolicy e) (markKnown (Entry.zeroChecksum e)) ∷ []
+
 unfoldable pub entrySound : (policies : ℕ) → List ℕ → Bool
-entrySound policies e = every (entryConditions policies e)
+entrySound policies e = every (entryConditions policies e) && every (entryMarks e)
 
 -- A RULE
 

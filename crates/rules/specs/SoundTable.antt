@@ -42,6 +42,11 @@ pub record ArgsStart (start : ℕ) : Type 0 where
   pub most : a ≤ 11
   pub held : start ≡ 8 * a
 
+-- a mark is 0 or 1
+pub data Mark (mark : ℕ) : Type 0 where
+  unset : mark ≡ 0 → Mark mark
+  set : mark ≡ 1 → Mark mark
+
 -- bit b of an address, the first being bit 0
 abbrev pub bit : (address : List ℕ) (b : ℕ) → ℕ
 bit address b = octet address (b / 8) / 2 ^ (7 - b % 8) % 2
@@ -71,7 +76,10 @@ pub record RightEntry (count : ℕ) (e : List ℕ) : Type 0 where
   pub pOfE4 : Entry.behaviour e ≡ 72 → Entry.p e ≤ 7
   pub qOfE4 : Entry.behaviour e ≡ 72 → Entry.q e ≤ 12
   pub prefixOfE4 : Entry.behaviour e ≡ 72 → Entry.prefixLength e ≤ 8 * Entry.p e
-  pub reserved : Entry.reserved e ≡ 0
+  -- D and Di: whether a UDP checksum of zero is allowed; the octet of the others is reserved
+  pub zeroChecksumOfD : Entry.behaviour e ≡ 69 → Mark (Entry.zeroChecksum e)
+  pub zeroChecksumOfDi : Entry.behaviour e ≡ 70 → Mark (Entry.zeroChecksum e)
+  pub reserved : Entry.behaviour e ≢ 69 → Entry.behaviour e ≢ 70 → Entry.zeroChecksum e ≡ 0
 
 pub record RightRule (r : List ℕ) : Type 0 where
   pub prefixLength : Rule.prefixLength r ≤ 32

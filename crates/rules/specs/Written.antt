@@ -15,6 +15,7 @@ use Rattle.rules.specs.Srh as Srh
 use Rattle.rules.specs.Ipv4 as Ipv4
 use Rattle.rules.specs.Gtpu as Gtpu
 use Rattle.rules.specs.Carried.{Carried}
+use Rattle.rules.specs.AddsUp.{AddsUp}
 
 -- HEADERS
 
@@ -56,12 +57,11 @@ pub record Ipv4Fields (p : List ℕ) (class total hops : ℕ) (from to : List �
   pub destination : Ipv4.destination p ≡ to
   pub size : length p ≡ total
 
--- UDP (RFC 768): destination 2152, checksum 0 (house)
+-- UDP (RFC 768): destination 2152
 pub record UdpFields (u : List ℕ) (port bytes : ℕ) : Type 0 where
   pub sourcePort : Gtpu.sourcePort u ≡ port
   pub destinationPort : Gtpu.destinationPort u ≡ 2152
   pub udpLength : Gtpu.udpLength u ≡ bytes
-  pub udpChecksum : Gtpu.udpChecksum u ≡ 0
   pub size : length u ≡ bytes
 
 -- GTP-U (TS 29.281): a G-PDU with E only, sequence and N-PDU number 0, one PDU Session container (TS 38.415) of one unit in the entry's
@@ -90,12 +90,11 @@ pub record GtpuFields (u : List ℕ) (direction : ℕ) (args : Args) (inner : Li
   pub innerOctets : Gtpu.innerOf u ≡ inner
 
 -- UDP and an Echo Response (TS 29.281, 7.2.2) to the datagram `request`: from 2152 to its source port, with its sequence number; S only,
--- TEID 0, N-PDU number and next type 0, and behind these one Recovery element with restart counter 0; UDP checksum 0 (house)
+-- TEID 0, N-PDU number and next type 0, and behind these one Recovery element with restart counter 0
 pub record EchoFields (u request : List ℕ) : Type 0 where
   pub sourcePort : Gtpu.sourcePort u ≡ 2152
   pub destinationPort : Gtpu.destinationPort u ≡ Gtpu.sourcePort request
   pub udpLength : Gtpu.udpLength u ≡ 22
-  pub udpChecksum : Gtpu.udpChecksum u ≡ 0
   pub size : length u ≡ 22
   pub version : Gtpu.version u ≡ 1
   pub protocolType : Gtpu.protocolType u ≡ 1
@@ -110,6 +109,12 @@ pub record EchoFields (u request : List ℕ) : Type 0 where
   pub nPduNumber : Gtpu.nPduNumber u ≡ 0
   pub extensionType : Gtpu.extensionType u ≡ 0
   pub elements : drop 20 u ≡ 14 ∷ 0 ∷ []
+
+-- The UDP checksum of what is sent over IPv6 (RFC 8200, 8.1): it is not 0, and its datagram u adds up with it. No other number is both.
+pub record TrueChecksum (source destination u : List ℕ) : Type 0 where
+  pub sent : Gtpu.udpChecksum u ≢ 0
+  pub small : Gtpu.udpChecksum u ≤ 0xffff
+  pub adds : AddsUp source destination u
 
 -- next header: 4, 41 or 143 for IPv4, IPv6 or Ethernet sessions; an IPv4v6 session takes 4 or 41 from the inner first nibble
 pub record SessionHeader (session next : ℕ) (inner : List ℕ) : Type 0 where
@@ -208,12 +213,14 @@ pub record WrittenE6 (e : List ℕ) (c : Carried) (p : List ℕ) : Type 0 where
   pub source : Ipv6.source p ≡ Entry.source e
   pub destination : Ipv6.destination p ≡ c .destination
   pub udp : UdpFields (drop 40 p) (Entry.sourcePort e) (24 + length (c .inner))
+  pub checksum : TrueChecksum (Ipv6.source p) (Ipv6.destination p) (drop 40 p)
   pub gtpu : GtpuFields (drop 40 p) (Entry.direction e) (c .args) (c .inner)
 
--- E4: between the IPv4 addresses carried, UDP and GTP-U behind the IPv4 header
+-- E4: between the IPv4 addresses carried, UDP and GTP-U behind the IPv4 header; over IPv4 the UDP checksum is 0 (house)
 pub record WrittenE4 (e : List ℕ) (c : Carried) (p : List ℕ) : Type 0 where
   pub ipv4 : Ipv4Fields p (c .trafficClass) (44 + length (c .inner)) (Entry.hopLimit e) (c .source) (c .destination)
   pub udp : UdpFields (drop 20 p) (Entry.sourcePort e) (24 + length (c .inner))
+  pub checksum : Gtpu.udpChecksum (drop 20 p) ≡ 0
   pub gtpu : GtpuFields (drop 20 p) (Entry.direction e) (c .args) (c .inner)
 
 -- The reply x to the Echo Request p, whose datagram is u, at the entry e of D or Di and at the rule r: addresses exchanged, the request's
@@ -224,10 +231,12 @@ pub record WrittenEcho6 (e p u x : List ℕ) : Type 0 where
   pub source : Ipv6.source x ≡ Ipv6.destination p
   pub destination : Ipv6.destination x ≡ Ipv6.source p
   pub echo : EchoFields (drop 40 x) u
+  pub checksum : TrueChecksum (Ipv6.source x) (Ipv6.destination x) (drop 40 x)
 
 pub record WrittenEcho4 (r p u x : List ℕ) : Type 0 where
   pub ipv4 : Ipv4Fields x (Ipv4.tos p) 42 (Rule.hopLimit r) (Ipv4.destination p) (Ipv4.source p)
   pub echo : EchoFields (drop 20 x) u
+  pub checksum : Gtpu.udpChecksum (drop 20 x) ≡ 0
 
 -- Waypoint (RFC 8986, 4.1): packet p is copied to q; only hop limit (octet 7), destination (24 to 39) and SL (43) change
 pub record WrittenWaypoint (p q : List ℕ) : Type 0 where

@@ -173,6 +173,13 @@ impl Refusal {
     {
         Refusal::plain(17)
     }
+
+    // Row 18. UDP checksum wrong over IPv6, or zero where the entry does not allow it.
+    pub fn bad_checksum() -> Refusal
+        ensures { λ r. ⌜ r ≡ plain 18 ⌝ }
+    {
+        Refusal::plain(18)
+    }
 }
 
 // What rows of the answer table say of a packet.
