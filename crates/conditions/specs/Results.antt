@@ -13,7 +13,6 @@ pub record Front (e : List ℕ) : Type 0 where
   pub bits : prefixLengthWithin 128 (Entry.prefixLength e) ≡ true
   pub clear : prefixClear e ≡ true
   pub hopLimit : hopLimitWithin (Entry.hopLimit e) ≡ true
-  pub reserved : reservedClear (Entry.reserved e) ≡ true
 
 -- the conditions on single octets of a rule hold
 pub record Single (r : List ℕ) : Type 0 where

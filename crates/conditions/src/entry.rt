@@ -1,11 +1,12 @@
 // A SID entry: whether it is sound, and which condition it breaks.
 ghost use mathlib.Core.Path.{_≡_};
-ghost use mathlib.Core.Bool.{true, _&&_};
+ghost use mathlib.Core.Bool.{true, _&&_, _||_};
+ghost use mathlib.Core.List.{[], _∷_};
 ghost use lib.ListN.{length};
-ghost use Rattle.rules.specs.Entry.{start, p, q};
+ghost use Rattle.rules.specs.Entry.{start, p, q, zeroChecksum};
 ghost use Rattle.rules.specs.Sound.{behaviourKnown, prefixClear, policyExists, startWithin, prefixBeforeArgs, pWithin, qWithin};
-ghost use Rattle.rules.specs.Sound.{prefixBeforeAddress, entrySound};
-ghost use Rattle.rules.specs.Fault.{entryBroken};
+ghost use Rattle.rules.specs.Sound.{prefixBeforeAddress, usesPolicy, reservedClear, entryMarks, entrySound};
+ghost use Rattle.rules.specs.Fault.{brokenBefore, firstBroken, entryBroken};
 ghost use Rattle.conditions.specs.Results.{Front};
 use crate::fields;
 use crate::unless;
@@ -31,14 +32,32 @@ fn prefix_clear(e: &[u8]) -> bool
     prefix::clear16(entry::prefix_of(e), octets::wide(e[entry::PREFIX_LENGTH]))
 }
 
+// D and Di, which name a policy and have a mark.
+fn uses_policy(e: &[u8]) -> bool
+    requires { ⌜ length (now e) ≡ 64 ⌝ }
+    ensures { λ r. ⌜ r ≡ usesPolicy (now (e .entry)) ⌝ }
+{
+    let behaviour = e[entry::BEHAVIOUR];
+    (behaviour == assigned::END_M_GTP6_D) | (behaviour == assigned::END_M_GTP6_D_DI)
+}
+
 fn policy_exists(e: &[u8], policies: usize) -> bool
     requires { ⌜ length (now e) ≡ 64 ⌝ }
     ensures { λ r. ⌜ r ≡ policyExists policies (now (e .entry)) ⌝ }
 {
-    let behaviour = e[entry::BEHAVIOUR];
-    let uses_policy = (behaviour == assigned::END_M_GTP6_D)
-        | (behaviour == assigned::END_M_GTP6_D_DI);
-    !uses_policy | (octets::wide(e[entry::POLICY]) < policies)
+    !uses_policy(e) | (octets::wide(e[entry::POLICY]) < policies)
+}
+
+// The condition that octet 9 breaks: 13 where it is reserved, 15 where it is the mark that a UDP checksum of zero is allowed.
+fn octet_9_broken(e: &[u8]) -> u8
+    requires { ⌜ length (now e) ≡ 64 ⌝ }
+    ensures { λ r. ⌜ r ≡ brokenBefore 13 ((usesPolicy (now (e .entry)) || reservedClear (zeroChecksum (now (e .entry)))) ∷ [])
+        (firstBroken 15 (entryMarks (now (e .entry)))) ⌝ }
+{
+    let mark = e[entry::ZERO_CHECKSUM];
+    let marked = uses_policy(e);
+    let from_15 = unless(!marked | (mark <= 1), 15, 0);
+    unless(marked | (mark == 0), 13, from_15)
 }
 
 fn prefix_before_address(e: &[u8]) -> bool
@@ -58,8 +77,11 @@ pub fn broken(e: &[u8], policies: usize) -> u8
     let uses_start = behaviour == assigned::END_M_GTP6_E;
     let uses_places = behaviour == assigned::END_M_GTP4_E;
     let bits = e[entry::PREFIX_LENGTH];
-    let from_13 = unless(e[entry::RESERVED] == 0, 13, 0);
-    let from_12 = unless(!uses_places | prefix_before_address(e), 12, from_13);
+    let from_12 = unless(
+        !uses_places | prefix_before_address(e),
+        12,
+        octet_9_broken(e),
+    );
     let from_11 = unless(!uses_places | (e[entry::Q] <= fields::Q_MOST), 11, from_12);
     let from_10 = unless(!uses_places | (e[entry::P] <= fields::P_MOST), 10, from_11);
     let from_9 = unless(!uses_start | (bits <= e[entry::START]), 9, from_10);
@@ -97,9 +119,6 @@ fn front_sound(e: &[u8]) -> bool
     if e[entry::HOP_LIMIT] == 0 {
         return false;
     }
-    if e[entry::RESERVED] != 0 {
-        return false;
-    }
     prefix::words_clear(
         numbers::eight(e, entry::PREFIX),
         numbers::eight(e, entry::PREFIX + 8),
@@ -133,7 +152,7 @@ pub fn surely_sound(e: &[u8], policies: usize) -> bool
     }
     let behaviour = e[entry::BEHAVIOUR];
     if behaviour == assigned::END {
-        return true;
+        return e[entry::ZERO_CHECKSUM] == 0;
     }
     if !fields::direction_known(e[entry::DIRECTION]) {
         return false;
@@ -146,13 +165,13 @@ pub fn surely_sound(e: &[u8], policies: usize) -> bool
         if behaviour < assigned::END_M_GTP6_D {
             return false;
         }
-        return octets::wide(e[entry::POLICY]) < policies;
+        return (e[entry::ZERO_CHECKSUM] <= 1) & (octets::wide(e[entry::POLICY]) < policies);
     }
     if behaviour == assigned::END_M_GTP6_E {
-        return start_sound(e);
+        return (e[entry::ZERO_CHECKSUM] == 0) & start_sound(e);
     }
     if behaviour == assigned::END_M_GTP4_E {
-        return places_sound(e);
+        return (e[entry::ZERO_CHECKSUM] == 0) & places_sound(e);
     }
     false
 }

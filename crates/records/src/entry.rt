@@ -22,7 +22,8 @@ pub const P: usize = 7;
 
 pub const Q: usize = 8;
 
-pub const RESERVED: usize = 9;
+// D and Di: whether a UDP checksum of zero is allowed; reserved at the others.
+pub const ZERO_CHECKSUM: usize = 9;
 
 pub const SOURCE_PORT: usize = 10;
 

@@ -1,7 +1,7 @@
 -- A table of octets is sound exactly where SoundTable says so: a law for the value of a field, for each record, and for the table.
 use mathlib.Core.Path.{_≡_, refl, sym, ap, _∙_}
 use mathlib.Core.Logic.{_≢_}
-use mathlib.Core.Bool.{Bool, true, false, not, _&&_, false≢true}
+use mathlib.Core.Bool.{Bool, true, false, _&&_, _||_, false≢true}
 use mathlib.Core.List.{List}
 use Prim.Native.Nat.{ℕ, zero, suc, _*_, _/_, _%_, _≤_}
 use native.Mathlib.Omega.{arith}
@@ -105,7 +105,7 @@ module _ (count : ℕ) (e : List ℕ) (o : Octets e) where
   )
 
   -- octet 9 is no mark
-  unmarked : Entry.behaviour e ≢ 69 → Entry.behaviour e ≢ 70 → not (usesPolicy e) ≡ true
+  unmarked : Entry.behaviour e ≢ 69 → Entry.behaviour e ≢ 70 → usesPolicy e ≡ false
   unmarked a b = rw (ne-eqb (Entry.behaviour e) endMGtp6D a, ne-eqb (Entry.behaviour e) endMGtp6DDi b)
 
   entry-said : entrySound count e ≡ true → RightEntry count e
@@ -130,7 +130,7 @@ module _ (count : ℕ) (e : List ℕ) (o : Octets e) where
         prefixOfE4 = λ b. omega (holding, where-used (usesPlaces e) _ address (rw b));
         zeroChecksumOfD = λ b. mark-known _ .0 (where-used (usesPolicy e) _ mark (rw b));
         zeroChecksumOfDi = λ b. mark-known _ .0 (where-used (usesPolicy e) _ mark (rw b));
-        reserved = λ a b. omega (holding, where-used (not (usesPolicy e)) _ reserved (unmarked a b));
+        reserved = λ a b. eqb-true _ 0 (rw (unmarked a b) at reserved);
       }
 
   said-entry : RightEntry count e → entrySound count e ≡ true
@@ -150,14 +150,13 @@ module _ (count : ℕ) (e : List ℕ) (o : Octets e) where
       also used-where (usesPlaces e) _ (λ u. omega (meeting, r .pOfE4 (omega holding)))
       also used-where (usesPlaces e) _ (λ u. omega (meeting, r .qOfE4 (omega holding)))
       also used-where (usesPlaces e) _ (λ u. omega (meeting, r .prefixOfE4 (omega holding)))
-      also used-where (not (usesPolicy e)) _ reserved
+      also reserved (usesPolicy e) refl
       also tt))
       (holds-every (entryMarks e) (used-where (usesPolicy e) _ mark also tt))
     where
-      reserved : not (usesPolicy e) ≡ true → reservedClear (Entry.zeroChecksum e) ≡ true
-      reserved u =
-          let n = not-true (usesPolicy e) u in
-          eq-eqb _ 0 (r .reserved (λ b. false≢true (sym n ∙ rw b)) (λ b. false≢true (sym n ∙ rw b)))
+      reserved : (uses : Bool) → usesPolicy e ≡ uses → uses || reservedClear (Entry.zeroChecksum e) ≡ true
+      reserved true u = refl
+      reserved false u = eq-eqb _ 0 (r .reserved (λ b. false≢true (sym u ∙ rw b)) (λ b. false≢true (sym u ∙ rw b)))
 
       mark : usesPolicy e ≡ true → markKnown (Entry.zeroChecksum e) ≡ true
       mark u =

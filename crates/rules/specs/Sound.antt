@@ -144,7 +144,7 @@ entryConditions policies e =
     ∷ whereUsed (usesPlaces e) (pWithin (Entry.p e))
     ∷ whereUsed (usesPlaces e) (qWithin (Entry.q e))
     ∷ whereUsed (usesPlaces e) (prefixBeforeAddress e)
-    ∷ whereUsed (not (usesPolicy e)) (reservedClear (Entry.zeroChecksum e))
+    ∷ (usesPolicy e || reservedClear (Entry.zeroChecksum e))
     ∷ []
 
 -- that a UDP checksum of zero is allowed is a mark of D and Di

@@ -3,7 +3,7 @@ use mathlib.Core.List.{List}
 use Prim.Native.Nat.{ℕ}
 use native.Mathlib.Omega.{arith}
 use Rattle.rules.specs.Entry as Entry
-use Rattle.rules.specs.Sound.{hopLimitWithin, pWithin, prefixBeforeArgs, prefixLengthWithin, qWithin, reservedClear, usesPlaces}
+use Rattle.rules.specs.Sound.{hopLimitWithin, pWithin, prefixBeforeArgs, prefixLengthWithin, qWithin, usesPlaces}
 use Rattle.rules.specs.Sound.{usesSession, usesStart, whereUsed}
 use Rattle.rules.specs.Fault.{entryBroken}
 use Rattle.conditions.proofs.Conditions.{behind, itself, where-used}
@@ -25,27 +25,25 @@ returns c =
     let c₁₀ = c₉ .before .before in
     let c₁₁ = c₁₀ .before .before in
     let c₁₂ = c₁₁ .before .before in
-    let c₁₃ = c₁₂ .before .before in
-    let e : List ℕ = c₁₃ .before .before .before .before .before .args .e .now in
-    behind 1 (c .before .behaviour-known .ensures) (c .unless13 .ensures)
-    (behind 2 (itself (prefixLengthWithin 128 (Entry.prefixLength e))) (c₂ .unless12 .ensures)
-    (behind 3 (c₃ .before .prefix-clear .ensures) (c₃ .unless11 .ensures)
-    (behind 4 (itself (hopLimitWithin (Entry.hopLimit e))) (c₄ .unless10 .ensures)
-    (behind 5 (where-used (usesSession e) (c₅ .before .direction-known .ensures)) (c₅ .unless9 .ensures)
-    (behind 6 (where-used (usesSession e) (c₆ .before .session-known .ensures)) (c₆ .unless8 .ensures)
-    (behind 7 (c₇ .before .policy-exists .ensures) (c₇ .unless7 .ensures)
-    (behind 8 (where-used (usesStart e) (c₈ .before .start-within .ensures)) (c₈ .unless6 .ensures)
-    (behind 9 (itself (whereUsed (usesStart e) (prefixBeforeArgs e))) (c₉ .unless5 .ensures)
-    (behind 10 (itself (whereUsed (usesPlaces e) (pWithin (Entry.p e)))) (c₁₀ .unless4 .ensures)
-    (behind 11 (itself (whereUsed (usesPlaces e) (qWithin (Entry.q e)))) (c₁₁ .unless3 .ensures)
-    (behind 12 (where-used (usesPlaces e) (c₁₂ .before .prefix-before-address .ensures)) (c₁₂ .unless2 .ensures)
-    (behind 13 (itself (reservedClear (Entry.reserved e))) (c₁₃ .unless .ensures) refl))))))))))))
+    let e : List ℕ = c₁₂ .before .before .before .before .before .before .args .e .now in
+    behind 1 (c .before .behaviour-known .ensures) (c .unless12 .ensures)
+    (behind 2 (itself (prefixLengthWithin 128 (Entry.prefixLength e))) (c₂ .unless11 .ensures)
+    (behind 3 (c₃ .before .prefix-clear .ensures) (c₃ .unless10 .ensures)
+    (behind 4 (itself (hopLimitWithin (Entry.hopLimit e))) (c₄ .unless9 .ensures)
+    (behind 5 (where-used (usesSession e) (c₅ .before .direction-known .ensures)) (c₅ .unless8 .ensures)
+    (behind 6 (where-used (usesSession e) (c₆ .before .session-known .ensures)) (c₆ .unless7 .ensures)
+    (behind 7 (c₇ .before .policy-exists .ensures) (c₇ .unless6 .ensures)
+    (behind 8 (where-used (usesStart e) (c₈ .before .start-within .ensures)) (c₈ .unless5 .ensures)
+    (behind 9 (itself (whereUsed (usesStart e) (prefixBeforeArgs e))) (c₉ .unless4 .ensures)
+    (behind 10 (itself (whereUsed (usesPlaces e) (pWithin (Entry.p e)))) (c₁₀ .unless3 .ensures)
+    (behind 11 (itself (whereUsed (usesPlaces e) (qWithin (Entry.q e)))) (c₁₁ .unless2 .ensures)
+    (behind 12 (where-used (usesPlaces e) (c₁₂ .before .before .prefix-before-address .ensures)) (c₁₂ .unless .ensures)
+    (c₁₂ .before .octet-9-broken .ensures))))))))))))
 
 pub broken-spec : {M : Type 1} → statement M
 broken-spec =
     tie.close
     (tie.spec
-    (λ c. search needs)
     (λ c. search needs)
     (λ c. search needs)
     (λ c κs. search needs)
@@ -76,7 +74,7 @@ broken-spec =
     (λ c κs. omega (
       arith,
       c .before .before .before .before .before .before .before .before .before .before .before .before .before .before .before
-          .before .before .before .before .before .before .before .before .before .before .before .before .before .before .pre,
+          .before .before .before .before .before .before .before .before .before .before .before .before .before .pre,
     ))
     (λ c κs. search needs)
     returns)

@@ -23,28 +23,28 @@ session : (c : tie.Else4) → sessionKnown
 session c = sym (c .before .session-known .ensures) ∙ not-false _ (c .if4 .left)
 
 returns-2 : tie.Need-returns-2
-returns-2 c = λ q. sound-end _ _ (front (c .before .before)) (c .if2 .taken)
+returns-2 c = λ q. sound-end _ _ (front (c .before .before .before)) (c .before .if2 .taken) q
 
 returns-6 : tie.Need-returns-6
 returns-6 c = λ q.
-    let c₄ = c .before .before .before .before in
+    let c₄ = c .before .before .before .before .before in
     let c₃ = c₄ .before .before .before in
     let f = front (c₃ .before .before .before .before .before) in
     sound-gtp6d _ _ f (direction c₃) (session c₄) (omega arith) (omega arith) (rw (← c .wide .ensures .0) q)
 
 returns-7 : tie.Need-returns-7
 returns-7 c = λ q.
-    let c₄ = c .before .before .before in
-    let c₃ = c₄ .before .before .before in
-    let f = front (c₃ .before .before .before .before .before) in
-    sound-e6 _ _ f (direction c₃) (session c₄) (c .before .if7 .taken) (sym (c .start-sound .ensures) ∙ q)
-
-returns-8 : tie.Need-returns-8
-returns-8 c = λ q.
     let c₄ = c .before .before .before .before in
     let c₃ = c₄ .before .before .before in
     let f = front (c₃ .before .before .before .before .before) in
-    sound-e4 _ _ f (direction c₃) (session c₄) (c .before .if8 .taken) (sym (c .places-sound .ensures) ∙ q)
+    sound-e6 _ _ f (direction c₃) (session c₄) (c .before .before .if7 .taken) (rw (← c .start-sound .ensures) q)
+
+returns-8 : tie.Need-returns-8
+returns-8 c = λ q.
+    let c₄ = c .before .before .before .before .before in
+    let c₃ = c₄ .before .before .before in
+    let f = front (c₃ .before .before .before .before .before) in
+    sound-e4 _ _ f (direction c₃) (session c₄) (c .before .before .if8 .taken) (rw (← c .places-sound .ensures) q)
 
 pub surely-sound-spec : {M : Type 1} → statement M
 surely-sound-spec =
@@ -52,6 +52,7 @@ surely-sound-spec =
     (tie.spec
     (λ c κs. search needs)
     (λ c q. absurd (false≢true q))
+    (λ c. search needs)
     (λ c. search needs)
     returns-2
     (λ c. search needs)
@@ -62,10 +63,13 @@ surely-sound-spec =
     (λ c q. absurd (false≢true q))
     (λ c q. absurd (false≢true q))
     (λ c. search needs)
+    (λ c. search needs)
     (λ c κs. search needs)
     returns-6
+    (λ c. search needs)
     (λ c κs. search needs)
     returns-7
+    (λ c. search needs)
     (λ c κs. search needs)
     returns-8
     (λ c q. absurd (false≢true q)))
