@@ -9,7 +9,7 @@ use Rattle.rules.specs.declared.Refusal.{Refusal}
 use Rattle.rules.specs.declared.Verdict.{Verdict}
 use Rattle.rules.specs.declared.Verdict.the-variants.{Pass, Refuse}
 use Rattle.rules.proofs.Judging.{unless-append}
-use Rattle.octets.specs.Run.{Run}
+use Rattle.copying.specs.Run.{Run}
 use Rattle.answer.specs.declared.Answer.{Answer}
 use Rattle.answer.specs.Answered.{answerOf, Answered, Placed}
 use Rattle.answer.proofs.Settling.{answered-refused, answered-as, refuse-settles, pass-settles}

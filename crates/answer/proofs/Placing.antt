@@ -6,8 +6,8 @@ use native.Mathlib.Omega.{arith}
 use lib.ListN.{length, drop, length-append, length-drop}
 use Rattle.rules.specs.Answer.{plain, Sent, settle, overlay}
 use Rattle.rules.specs.Plan.{sentBy}
-use Rattle.octets.specs.Run.{Run}
-use Rattle.octets.proofs.Laws.{chain-prev}
+use Rattle.copying.specs.Run.{Run}
+use Rattle.copying.proofs.Laws.{chain-prev}
 use Rattle.answer.specs.declared.Answer.{Answer}
 use Rattle.answer.specs.Answered.{Answered, Placed}
 use Rattle.answer.proofs.Settling.{answered-refused, answered-sent, room-short, room-enough}

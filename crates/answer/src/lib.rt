@@ -62,6 +62,6 @@ pub fn send(before: usize, packet: &[u8], place: usize, out: &mut [u8]) -> Answe
     if out.len() < all {
         return Answer::refused(rules::Refusal::no_room());
     }
-    octets::copy_part(out, before, packet, place);
+    copying::copy_part(out, before, packet, place);
     Answer::sent(all)
 }

@@ -18,7 +18,7 @@ use Rattle.rules.specs.Sound.{every, entryConditions, entryMarks, entrySound, r
 use Rattle.rules.specs.Sound.{policyConditions, policySound}
 use Rattle.rules.proofs.Conditions.{and-left, and-right, and-both, Holds, holds-every, _also_}
 use Rattle.rules.proofs.Windows.{octet-window}
-use Rattle.octets.proofs.Words.{number-parts}
+use Rattle.numbers.proofs.Words.{number-parts}
 use Rattle.conditions.specs.Results.{Front, Single}
 
 -- A PREFIX IN A RECORD, READ IN TWO WORDS

@@ -10,7 +10,6 @@ ghost use Rattle.rules.specs.Fault.{brokenBefore, firstBroken, entryBroken};
 ghost use Rattle.conditions.specs.Results.{Front};
 use crate::fields;
 use crate::unless;
-use octets::numbers;
 use records::entry;
 use rules::assigned;
 

@@ -7,7 +7,6 @@ ghost use Rattle.rules.specs.Fault.{ruleBroken};
 ghost use Rattle.conditions.specs.Results.{Single};
 use crate::fields;
 use crate::unless;
-use octets::numbers;
 use records::rule;
 
 fn prefix_clear(r: &[u8]) -> bool

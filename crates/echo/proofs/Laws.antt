@@ -20,8 +20,8 @@ use Rattle.rules.proofs.Windows.{window-drop, window-length}
 use Rattle.rules.proofs.Splices.{splice-window}
 use Rattle.rules.proofs.Judging.{any-last, row-yes, row-no, row-none}
 use Rattle.rules.proofs.Plans.{all-head}
-use Rattle.octets.specs.Run.{Run}
-use Rattle.octets.proofs.Laws.{splice-front}
+use Rattle.copying.specs.Run.{Run}
+use Rattle.copying.proofs.Laws.{splice-front}
 use Rattle.answer.specs.declared.Answer.{Answer}
 use Rattle.answer.specs.Answered.{answerOf, Answered, Placed}
 use Rattle.answer.proofs.Settling.{answered-as, answered-named, refuse-settles, pass-settles}

@@ -6,14 +6,14 @@ ghost use mathlib.Core.Path.{_≡_};
 ghost use mathlib.Core.List.{[], _++_};
 ghost use Prim.Native.Nat.{_≤_, _<_};
 ghost use lib.ListN.{length, drop};
-ghost use Rattle.rules.specs.Octets.{window, read16, splice};
+ghost use Rattle.rules.specs.Octets.{window, splice};
 ghost use Rattle.rules.specs.Ipv6.{ipv6};
 ghost use Rattle.rules.specs.Ipv4.{ipv4};
 ghost use Rattle.rules.specs.Gtpu.{echoDatagram};
 ghost use Rattle.rules.specs.Answer.{any, Sent, settle, unless};
 ghost use Rattle.rules.specs.Datagram.{datagram};
 ghost use Rattle.rules.specs.Echo.{isEcho, badEcho, echoRows, echoAnswer};
-ghost use Rattle.octets.specs.Run.{Run};
+ghost use Rattle.copying.specs.Run.{Run};
 ghost use Rattle.answer.specs.Answered.{Answered};
 ghost use Rattle.echo.specs.Reply.{replyTo6, replyTo4};
 
@@ -86,24 +86,13 @@ fn bad_echo(packet: &[u8], at: usize) -> bool
     (flags / 2 % 2 != 1) | ((teid[0] != 0) | ((teid[1] != 0) | ((teid[2] != 0) | (teid[3] != 0))))
 }
 
-// The 16-bit number at octet i of that datagram.
-fn number_at(packet: &[u8], at: usize, i: usize) -> u16
-    requires { ⌜ (at < 65536) × (i < 24) ⌝ }
-    ensures { λ r. ⌜ r ≡ read16 (drop at (now (packet .entry))) i ⌝ }
-{
-    octets::join16(
-        octets::octet_or_0(packet, at + i),
-        octets::octet_or_0(packet, at + i + 1),
-    )
-}
-
 // The reply to the request whose datagram begins there: to its source port, with its sequence number.
 fn response_to(packet: &[u8], at: usize) -> [u8; 22]
     requires { ⌜ at < 65536 ⌝ }
     ensures { λ r. ⌜ r ≡ echoAnswer (drop at (now (packet .entry))) ⌝ }
 {
-    let port = number_at(packet, at, SOURCE_PORT_AT);
-    let number = number_at(packet, at, SEQUENCE_NUMBER_AT);
+    let port = octets::number_at(packet, at, SOURCE_PORT_AT);
+    let number = octets::number_at(packet, at, SEQUENCE_NUMBER_AT);
     response(port, number)
 }
 
@@ -127,7 +116,7 @@ fn put_reply6(
         source,
         destination,
     );
-    octets::copy_to(out, 40, &datagram);
+    copying::copy_to(out, 40, &datagram);
 }
 
 fn put_reply4(
@@ -142,7 +131,7 @@ fn put_reply4(
     ensures { λ _. ⌜ Run (now (out .entry)) 0 42 (ipv4 tos 42 ttl source destination [] ++ datagram) (now (out .exit)) ⌝ }
 {
     ip::put_ipv4(out, tos, REPLY4 as u16, ttl, source, destination);
-    octets::copy_to(out, 20, &datagram);
+    copying::copy_to(out, 20, &datagram);
 }
 
 // The reply to the Echo Request in an IPv6 packet, whose datagram begins at octet `at`: row 16, then what is sent.
@@ -167,8 +156,8 @@ fn exchange4(packet: &[u8], out: &mut [u8])
     ensures { λ _. ⌜ now (out .exit) ≡ splice (now (out .entry)) 12 (window (now (packet .entry)) 16 4
         ++ window (now (packet .entry)) 12 4) ⌝ }
 {
-    octets::copy_to(out, 12, &packet[16..20]);
-    octets::copy_to(out, 16, &packet[12..16]);
+    copying::copy_to(out, 12, &packet[16..20]);
+    copying::copy_to(out, 16, &packet[12..16]);
 }
 
 // The same over IPv4. The checksum needs the addresses octet by octet. They are read from the output, where they were copied to: the

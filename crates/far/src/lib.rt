@@ -17,7 +17,7 @@ ghost use Rattle.rules.specs.Answer.{any, differs, verdict, lengthRow, settle};
 ghost use Rattle.rules.specs.E6.{atE6};
 ghost use Rattle.rules.specs.E4.{atE4};
 ghost use Rattle.rules.specs.Plan.{e6Head, e4Head};
-ghost use Rattle.octets.specs.Run.{Run};
+ghost use Rattle.copying.specs.Run.{Run};
 ghost use Rattle.answer.specs.Answered.{Answered};
 ghost use Rattle.far.specs.FarRows.{chainTests, leftTests, farRows, FarAsked, PutFar};
 

@@ -11,7 +11,7 @@ ghost use Rattle.rules.specs.Answer.{row, differs, any, verdict};
 ghost use Rattle.rules.specs.Datagram.{datagram, notGtpu, badUdp, badGtpu, extended, badExtensions, badContainer, badInner};
 ghost use Rattle.rules.specs.Datagram.{gPduRows, innerRows};
 ghost use Rattle.rules.specs.Gtpu as Gtpu;
-ghost use Rattle.octets.specs.Run.{Run};
+ghost use Rattle.copying.specs.Run.{Run};
 ghost use Rattle.args.specs.Value.{value};
 ghost use Rattle.gtpu.specs.Reading.{viewOf, argsOf};
 
@@ -286,5 +286,5 @@ pub fn put_datagram(
         args.flow_octet(direction),
         0,
     ];
-    octets::copy_to(out, at, &head);
+    copying::copy_to(out, at, &head);
 }

@@ -13,7 +13,7 @@ ghost use Rattle.rules.specs.Octets.{window};
 ghost use Rattle.rules.specs.Ipv6.{ipv6};
 ghost use Rattle.rules.specs.Ipv4.{ipv4};
 ghost use Rattle.rules.specs.Checksum.{onesSum};
-ghost use Rattle.octets.specs.Run.{Run};
+ghost use Rattle.copying.specs.Run.{Run};
 
 // Where the upper layer begins: behind the SRH, or behind the IPv6 header.
 fn upper_at(next: u8, units: u8) -> u16
@@ -139,9 +139,9 @@ pub fn put_ipv6(
         next,
         hops,
     ];
-    octets::copy_to(out, 0, &head);
-    octets::copy_to(out, 8, &source);
-    octets::copy_to(out, 24, &destination);
+    copying::copy_to(out, 0, &head);
+    copying::copy_to(out, 8, &source);
+    copying::copy_to(out, 24, &destination);
 }
 
 // A number of up to 32 bits as the ones' complement sum of its 16-bit halves, twice (RFC 1071).
@@ -273,7 +273,7 @@ pub fn put_ipv4(out: &mut [u8], tos: u8, total: u16, ttl: u8, source: [u8; 4], d
         (sum / 256) as u8,
         (sum % 256) as u8,
     ];
-    octets::copy_to(out, 0, &head);
-    octets::copy_to(out, 12, &source);
-    octets::copy_to(out, 16, &destination);
+    copying::copy_to(out, 0, &head);
+    copying::copy_to(out, 12, &source);
+    copying::copy_to(out, 16, &destination);
 }

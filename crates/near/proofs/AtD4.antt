@@ -33,8 +33,8 @@ use Rattle.rules.specs.declared.Verdict.the-variants.{Pass, Refuse}
 use Rattle.rules.proofs.Judging.{refused-first}
 use Rattle.rules.proofs.Paths.{addressesAt-length}
 use Rattle.rules.proofs.Plans.{inner-4, all-head, echo4-carried-out, gPdu4-carried-out}
-use Rattle.octets.specs.Run.{Run}
-use Rattle.octets.proofs.Laws.{splice-front, chain, run-as}
+use Rattle.copying.specs.Run.{Run}
+use Rattle.copying.proofs.Laws.{splice-front, chain, run-as}
 use Rattle.octets.proofs.Windows.{window-part}
 use Rattle.answer.specs.declared.Answer.{Answer}
 use Rattle.answer.specs.Answered.{answerOf, Answered}

@@ -19,7 +19,7 @@ ghost use Rattle.rules.specs.Session.{innerProtocol};
 ghost use Rattle.rules.specs.E4.{startBehind};
 ghost use Rattle.rules.specs.D4.{addressBehind, gtp4Rows, atD4};
 ghost use Rattle.rules.specs.Plan.{d4Head};
-ghost use Rattle.octets.specs.Run.{Run};
+ghost use Rattle.copying.specs.Run.{Run};
 ghost use Rattle.args.specs.Value.{value};
 ghost use Rattle.answer.specs.Answered.{Answered};
 ghost use Rattle.path.specs.ByType.{typeRows};
@@ -66,8 +66,8 @@ fn behind(r: &[u8], at: usize, n: usize, address: [u8; 4]) -> [u8; 16]
 {
     let mut a = [0u8; 16];
     let end = at + n;
-    octets::copy_to(&mut a, 0, &r[at..end]);
-    octets::copy_to(&mut a, n, &address);
+    copying::copy_to(&mut a, 0, &r[at..end]);
+    copying::copy_to(&mut a, n, &address);
     a
 }
 

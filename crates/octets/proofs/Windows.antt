@@ -8,7 +8,7 @@ use lib.ListN.{length, take, drop, getD, set, replicate, length-drop}
 use lib.Seq.{drop-cons, paste, paste-suc}
 use Rattle.rules.specs.Octets.{octet, window, splice}
 use Rattle.rules.proofs.Windows.{window-drop}
-use Rattle.octets.proofs.Laws.{part-count, length-part, splice-front, splice-whole}
+use Rattle.copying.proofs.Laws.{part-count, length-part, splice-front, splice-whole}
 
 pub window-part : (p : List ℕ) (i n : ℕ) → i + n ≤ length p → window p i n ≡ take n (drop i p)
 unfolding window

@@ -1,70 +1,8 @@
-// Octets of packets and buffers: read where they lie, 0 past the end, and copied. Nothing else touches them.
+// Octets of packets and buffers, read: where they lie, 0 past the end, or by value.
 ghost use mathlib.Core.Path.{_≡_};
 ghost use Prim.Native.Nat.{_+_, _-_, _*_, _≤_, _<_};
 ghost use lib.ListN.{length, drop};
-ghost use Rattle.rules.specs.Octets.{octet, window, splice};
-
-pub mod numbers; // numbers.rt: numbers that stand in octets
-
-// All of src, into out from at on, octet by octet.
-fn copy_octets(out: &mut [u8], at: usize, src: &[u8])
-    requires { ⌜ at + length (now src) ≤ length (now out) ⌝ }
-    ensures { λ _. ⌜ now (out .exit) ≡ splice (now (out .entry)) at (now (src .entry)) ⌝ }
-{
-    let mut i = 0;
-    while i < src.len() {
-        out[at + i] = src[i];
-        i += 1;
-    }
-}
-
-// More than the inner packet of a frame, so that one block is the rule.
-const BLOCK: usize = 2048;
-
-// All of src, a block at most, by way of an array: nothing overlaps that, so both loops compile to one memmove, and the array is gone.
-fn copy_block(out: &mut [u8], at: usize, src: &[u8])
-    requires { ⌜ (at + length (now src) ≤ length (now out)) × (length (now src) ≤ 2048) ⌝ }
-    ensures { λ _. ⌜ now (out .exit) ≡ splice (now (out .entry)) at (now (src .entry)) ⌝ }
-{
-    let mut block = [0u8; BLOCK];
-    copy_octets(&mut block, 0, src);
-    let n = src.len();
-    copy_octets(out, at, &block[0..n]);
-}
-
-// All of src, block after block.
-fn copy_blocks(out: &mut [u8], at: usize, src: &[u8])
-    requires { ⌜ at + length (now src) ≤ length (now out) ⌝ }
-    ensures { λ _. ⌜ now (out .exit) ≡ splice (now (out .entry)) at (now (src .entry)) ⌝ }
-{
-    let mut done = 0;
-    while BLOCK < src.len() - done {
-        let end = done + BLOCK;
-        copy_block(out, at + done, &src[done..end]);
-        done = end;
-    }
-    copy_block(out, at + done, &src[done..]);
-}
-
-// All of src, into out from at on.
-pub fn copy_to(out: &mut [u8], at: usize, src: &[u8])
-    requires { ⌜ at + length (now src) ≤ length (now out) ⌝ }
-    ensures { λ _. ⌜ now (out .exit) ≡ splice (now (out .entry)) at (now (src .entry)) ⌝ }
-{
-    if src.len() <= BLOCK {
-        copy_block(out, at, src);
-        return;
-    }
-    copy_blocks(out, at, src);
-}
-
-// What stands in src from at on, into out from to on.
-pub fn copy_part(out: &mut [u8], to: usize, src: &[u8], at: usize)
-    requires { ⌜ (at ≤ length (now src)) × (to + (length (now src) - at) ≤ length (now out)) ⌝ }
-    ensures { λ _. ⌜ now (out .exit) ≡ splice (now (out .entry)) to (drop at (now (src .entry))) ⌝ }
-{
-    copy_to(out, to, &src[at..]);
-}
+ghost use Rattle.rules.specs.Octets.{octet, read16, window, splice};
 
 pub fn octet_or_0(s: &[u8], at: usize) -> u8
     ensures { λ r. ⌜ r ≡ octet (now (s .entry)) at ⌝ }
@@ -76,6 +14,14 @@ pub fn join16(hi: u8, lo: u8) -> u16
     ensures { λ r. ⌜ (r ≡ hi * 256 + lo) × (r < 65536) ⌝ }
 {
     (hi as u16) * 256 + (lo as u16)
+}
+
+// The 16-bit number at octet i of what begins at octet `at`, a datagram's front.
+pub fn number_at(s: &[u8], at: usize, i: usize) -> u16
+    requires { ⌜ (at < 65536) × (i < 24) ⌝ }
+    ensures { λ r. ⌜ r ≡ read16 (drop at (now (s .entry))) i ⌝ }
+{
+    join16(octet_or_0(s, at + i), octet_or_0(s, at + i + 1))
 }
 
 // An octet as a number that sums and products of octets fit.
@@ -131,7 +77,7 @@ fn copy_rest(out: &mut [u8], s: &[u8], at: usize)
     ensures { λ _. ⌜ now (out .exit) ≡ splice (now (out .entry)) 0 (drop at (now (s .entry))) ⌝ }
 {
     if at < s.len() {
-        copy_octets(out, 0, &s[at..]);
+        copying::copy_octets(out, 0, &s[at..]);
     }
 }
 
@@ -154,7 +100,7 @@ pub fn window16(s: &[u8], at: usize) -> [u8; 16]
         return a;
     }
     let end = at + 16;
-    copy_octets(&mut a, 0, &s[at..end]);
+    copying::copy_octets(&mut a, 0, &s[at..end]);
     a
 }
 
@@ -172,7 +118,7 @@ pub fn window20(s: &[u8], at: usize) -> [u8; 20]
         return a;
     }
     let end = at + 20;
-    copy_octets(&mut a, 0, &s[at..end]);
+    copying::copy_octets(&mut a, 0, &s[at..end]);
     a
 }
 
@@ -186,7 +132,7 @@ pub fn window24(s: &[u8], at: usize) -> [u8; 24]
         return a;
     }
     let end = at + 24;
-    copy_octets(&mut a, 0, &s[at..end]);
+    copying::copy_octets(&mut a, 0, &s[at..end]);
     a
 }
 
@@ -204,6 +150,6 @@ pub fn window48(s: &[u8], at: usize) -> [u8; 48]
         return a;
     }
     let end = at + 48;
-    copy_octets(&mut a, 0, &s[at..end]);
+    copying::copy_octets(&mut a, 0, &s[at..end]);
     a
 }

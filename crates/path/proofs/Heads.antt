@@ -11,8 +11,8 @@ use Rattle.rules.specs.Plan.{pathFront, pathHead, tailOf, headAlong}
 use Rattle.rules.proofs.Reading.{Addresses, addresses-append, length-segments}
 use Rattle.rules.proofs.Paths.{addressesAt-addresses, addressesAt-length}
 use Rattle.rules.proofs.Plans.{tail-cases, tail-length}
-use Rattle.octets.specs.Run.{Run}
-use Rattle.octets.proofs.Laws.{first, next, run-as}
+use Rattle.copying.specs.Run.{Run}
+use Rattle.copying.proofs.Laws.{first, next, run-as}
 
 -- A TAIL OF ONE OR TWO ADDRESSES
 

@@ -6,7 +6,7 @@ ghost use lib.ListN.{length, getD};
 ghost use Rattle.rules.specs.Table.{addressesAt};
 ghost use Rattle.rules.specs.Srh.{segments};
 ghost use Rattle.rules.specs.Plan.{pathFront, tailOf, headAlong};
-ghost use Rattle.octets.specs.Run.{Run};
+ghost use Rattle.copying.specs.Run.{Run};
 ghost use Rattle.path.specs.Fits.{Fits, Ready, headOf};
 use rules::assigned;
 
@@ -66,7 +66,7 @@ fn put_front(
         source,
         to,
     );
-    octets::copy_to(out, 40, &front);
+    copying::copy_to(out, 40, &front);
 }
 
 // The first address of a path.
@@ -85,11 +85,11 @@ fn put_tail(out: &mut [u8], tail: usize, sid: [u8; 16], end: [u8; 16])
     ensures { λ _. ⌜ Run (now (out .entry)) 48 (16 * tail) (segments (tailOf tail sid end) []) (now (out .exit)) ⌝ }
 {
     if tail == 1 {
-        octets::copy_to(out, FRONT, &sid);
+        copying::copy_to(out, FRONT, &sid);
         return;
     }
-    octets::copy_to(out, FRONT, &end);
-    octets::copy_to(out, FRONT + 16, &sid);
+    copying::copy_to(out, FRONT, &end);
+    copying::copy_to(out, FRONT + 16, &sid);
 }
 
 // The head along a path: the one writer of D, Di and D4.

@@ -11,7 +11,7 @@ use lib.Dec.{eqb}
 use lib.Pow.{pow-add, pow-pos, shr-shr, shr-lt, shl-shr, split, mod-pow-add, high, low}
 use Rattle.rules.specs.Octets.{number}
 use Rattle.rules.specs.Prefix.{firstBits, under, clear}
-use Rattle.octets.proofs.Words.{number-parts}
+use Rattle.numbers.proofs.Words.{number-parts}
 
 -- two tests that hold together are the same
 pub eqb-iff : (a b c d : ℕ) → (a ≡ b → c ≡ d) → (c ≡ d → a ≡ b) → eqb a b ≡ eqb c d

@@ -26,7 +26,7 @@ fn count_at(table: &[u8], at: usize) -> usize
     requires { ⌜ at + 2 ≤ length (now table) ⌝ }
     ensures { λ r. ⌜ Known (read16 (now (table .entry)) at) 65536 r ⌝ }
 {
-    octets::numbers::two(table, at) as usize
+    numbers::two(table, at) as usize
 }
 
 pub fn entries(table: &[u8]) -> usize

@@ -5,7 +5,6 @@ ghost use Prim.Native.Nat.{_+_, _*_, _/_, _%_, _<_};
 ghost use lib.Dec.{eqb};
 ghost use lib.ListN.{drop};
 ghost use Rattle.rules.specs.Octets.{number};
-ghost use Rattle.rules.specs.Gtpu as Gtpu;
 ghost use Rattle.sequence.specs.Sequence.{found, sequence6, sequence4};
 ghost use Rattle.sequence.specs.Parts.{sequenceIn};
 
@@ -42,17 +41,6 @@ fn teid_of(g: rules::Datagram) -> u32
     )
 }
 
-// The sequence number of the datagram that begins at octet `at` of a packet.
-fn number_at(packet: &[u8], at: usize) -> u16
-    requires { ⌜ at < 65536 ⌝ }
-    ensures { λ r. ⌜ r ≡ Gtpu.sequenceNumber (drop at (now (packet .entry))) ⌝ }
-{
-    octets::join16(
-        octets::octet_or_0(packet, at + NUMBER_AT),
-        octets::octet_or_0(packet, at + NUMBER_AT + 1),
-    )
-}
-
 // Both in one number.
 fn pack(teid: u32, number: u16) -> u64
     ensures { λ r. ⌜ r ≡ found teid number ⌝ }
@@ -81,7 +69,7 @@ fn sequence_at(packet: &[u8], at: usize, protocol: u8) -> u64
     if !is_numbered(g) {
         return 0;
     }
-    pack(teid_of(g), number_at(packet, at))
+    pack(teid_of(g), octets::number_at(packet, at, NUMBER_AT))
 }
 
 // Of an IPv6 packet.

@@ -12,8 +12,8 @@ use Rattle.rules.specs.Srh.{segments}
 use Rattle.rules.proofs.Windows.{window-length}
 use Rattle.rules.proofs.Reading.{length-segments, segments-append}
 use Rattle.rules.proofs.Paths.{addressesAt-addresses, addressesAt-length}
-use Rattle.octets.specs.Run.{Run}
-use Rattle.octets.proofs.Laws.{splice-nil, chain-prev}
+use Rattle.copying.specs.Run.{Run}
+use Rattle.copying.proofs.Laws.{splice-nil, chain-prev}
 
 abbrev pub reversed : (s : List ℕ) (from n : ℕ) → List ℕ
 reversed s from n = segments (addressesAt s from n) []

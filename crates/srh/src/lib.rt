@@ -11,7 +11,7 @@ ghost use Rattle.rules.specs.Octets.{window};
 ghost use Rattle.rules.specs.Table.{addressesAt};
 ghost use Rattle.rules.specs.Srh.{segments};
 ghost use Rattle.rules.specs.Waypoint.{routing, step, underway, stepRows};
-ghost use Rattle.octets.specs.Run.{Run};
+ghost use Rattle.copying.specs.Run.{Run};
 ghost use Rattle.srh.specs.State.{wordOctets, addressOctets, state, NextOrRefused};
 
 // An address as two words, since an enum holds no array. A word's lowest octet stands first, so that a word is one load and one store.
@@ -172,7 +172,7 @@ pub fn put_reversed(out: &mut [u8], at: usize, s: &[u8], from: usize, n: usize)
     let mut k = 0;
     while k < n {
         let address = octets::sixteen(s, from + 16 * k);
-        octets::copy_to(out, at + 16 * (n - k - 1), address);
+        copying::copy_to(out, at + 16 * (n - k - 1), address);
         k += 1;
     }
 }

@@ -17,7 +17,7 @@ use Rattle.rules.specs.Rule as Rule
 use Rattle.rules.specs.Sound.{sameEntryPrefix, sameRulePrefix, distinct}
 use Rattle.rules.proofs.Conditions.{and-left, and-right}
 use Rattle.rules.proofs.Windows.{octets-window}
-use Rattle.octets.proofs.Words.{number-split, number-small}
+use Rattle.numbers.proofs.Words.{number-split, number-small}
 use Rattle.prefix.proofs.Prefixes.{eqb-iff}
 use Rattle.table.specs.Keys.{entryKey, ruleKey}
 use Rattle.table.proofs.Conditions.{distinct-none, distinct-more}

@@ -9,7 +9,6 @@ ghost use Rattle.rules.specs.Sound.{all, sameEntryPrefix, sameRulePrefix, disti
 ghost use Rattle.rules.specs.Fault.{entryRecord, entryRepeated, told, firstFault, entryPrefixesFault, rulePrefixesFault};
 ghost use Rattle.table.specs.Keys.{entryKey, ruleKeyOf};
 use crate::faults;
-use octets::numbers;
 use records::entry;
 use records::rule;
 

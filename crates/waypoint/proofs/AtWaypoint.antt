@@ -16,8 +16,8 @@ use Rattle.rules.specs.declared.Verdict.the-variants.{Refuse}
 use Rattle.rules.proofs.Judging.{row-yes, row-no}
 use Rattle.rules.proofs.Plans.{passes-long}
 use Rattle.answer.proofs.Calling.{Judged}
-use Rattle.octets.specs.Run.{Run}
-use Rattle.octets.proofs.Laws.{splice-inside, splice-length}
+use Rattle.copying.specs.Run.{Run}
+use Rattle.copying.proofs.Laws.{splice-inside, splice-length}
 
 -- three pieces put over a front are those of the front
 pub front-put : (o f : List ℕ) (s : Routing) (d o₁ o₂ o₃ o₄ : List ℕ) → length f ≡ 48 → length d ≡ 16 → d ≡ s .destination

@@ -11,7 +11,7 @@ ghost use Rattle.rules.specs.Octets.{window};
 ghost use Rattle.rules.specs.Answer.{settle};
 ghost use Rattle.rules.specs.Header.{WellFormed};
 ghost use Rattle.rules.specs.Waypoint.{withRouting, atWaypoint};
-ghost use Rattle.octets.specs.Run.{Run};
+ghost use Rattle.copying.specs.Run.{Run};
 ghost use Rattle.srh.specs.State.{state};
 ghost use Rattle.answer.specs.Answered.{Answered};
 
@@ -37,10 +37,10 @@ fn put_front(out: &mut [u8], front: [u8; 48], s: Routing)
     let hop_limit = [s.hopLimit];
     let segments_left = [s.segmentsLeft];
     let destination = s.destination.octets();
-    octets::copy_to(out, 0, &front);
-    octets::copy_to(out, 7, &hop_limit);
-    octets::copy_to(out, 24, &destination);
-    octets::copy_to(out, 43, &segments_left);
+    copying::copy_to(out, 0, &front);
+    copying::copy_to(out, 7, &hop_limit);
+    copying::copy_to(out, 24, &destination);
+    copying::copy_to(out, 43, &segments_left);
 }
 
 // The packet at a waypoint entry. The front is read a second time where it is written: handed down whole, it would be held by every call.

@@ -5,7 +5,7 @@ use denote.Ref.{now}
 use native.Mathlib.Omega.{arith}
 use Rattle.rules.specs.Octets.{splice}
 use borrow.Author.Needs.{needs}
-use Rattle.octets.proofs.Laws.{chain, length-part}
+use Rattle.copying.proofs.Laws.{chain, length-part}
 use Rattle.octets.proofs.Windows.{window-part}
 use Rattle.echo.proofs.exchange4.Statement.{statement}
 use Rattle.echo.proofs.exchange4.Tie as tie

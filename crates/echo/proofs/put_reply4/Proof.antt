@@ -1,7 +1,7 @@
 use mathlib.Core.Path.{refl}
 use native.Mathlib.Omega.{arith}
 use borrow.Author.Needs.{needs}
-use Rattle.octets.proofs.Laws.{next}
+use Rattle.copying.proofs.Laws.{next}
 use Rattle.echo.proofs.put_reply4.Statement.{statement}
 use Rattle.echo.proofs.put_reply4.Tie as tie
 

@@ -1,5 +1,5 @@
 use Rattle.rules.specs.Plan.{e4Head}
-use Rattle.octets.proofs.Laws.{next, run-as}
+use Rattle.copying.proofs.Laws.{next, run-as}
 use Rattle.rules.specs.Gtpu.{datagramBefore}
 use Rattle.rules.specs.Ipv4.{ipv4}
 use Rattle.rules.specs.Octets.{octet, window}

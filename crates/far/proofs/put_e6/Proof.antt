@@ -1,5 +1,5 @@
 use Rattle.rules.specs.Plan.{e6Head}
-use Rattle.octets.proofs.Laws.{next, run-as}
+use Rattle.copying.proofs.Laws.{next, run-as}
 use Rattle.rules.specs.Gtpu.{datagramBefore}
 use Rattle.rules.specs.Ipv6.{ipv6}
 use Rattle.rules.specs.Octets.{octet}

@@ -1,7 +1,7 @@
 use mathlib.Core.Path.{_∙_}
 use denote.Ref.{now}
 use borrow.Author.Needs.{needs}
-use Rattle.octets.proofs.Laws.{tail-all}
+use Rattle.copying.proofs.Laws.{tail-all}
 use Rattle.gtpu.proofs.Laws.{view-read}
 use Rattle.gtpu.proofs.datagram_at.Statement.{statement}
 use Rattle.gtpu.proofs.datagram_at.Tie as tie

@@ -2,7 +2,7 @@ use mathlib.Core.Path.{refl}
 use native.Mathlib.Omega.{arith}
 use denote.Ref.{now}
 use borrow.Author.Needs.{needs}
-use Rattle.octets.proofs.Laws.{first, run-as}
+use Rattle.copying.proofs.Laws.{first, run-as}
 use Rattle.args.specs.Value.{value}
 use Rattle.gtpu.proofs.Laws.{datagram-written}
 use Rattle.gtpu.proofs.put_datagram.Statement.{statement}

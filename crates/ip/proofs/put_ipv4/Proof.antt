@@ -1,6 +1,6 @@
 use Rattle.ip.proofs.Laws.{ipv4-written}
 use Rattle.rules.specs.Octets.{window}
-use Rattle.octets.proofs.Laws.{first, next, run-as}
+use Rattle.copying.proofs.Laws.{first, next, run-as}
 use denote.Ref.{now}
 use native.Mathlib.Omega.{arith}
 use mathlib.Core.Path.{refl}

@@ -1,4 +1,4 @@
-use Rattle.octets.proofs.Laws.{first, next, run-as}
+use Rattle.copying.proofs.Laws.{first, next, run-as}
 use denote.Ref.{now}
 use native.Mathlib.Omega.{arith}
 use mathlib.Core.List.{append-nil}

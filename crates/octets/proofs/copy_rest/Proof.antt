@@ -2,7 +2,7 @@ use mathlib.Core.Path.{sym}
 use native.Mathlib.Omega.{arith}
 use lib.ListN.{drop-of-length-le}
 use denote.Ref.{now}
-use Rattle.octets.proofs.Laws.{tail-all, splice-nil}
+use Rattle.copying.proofs.Laws.{tail-all, splice-nil}
 use borrow.Author.Needs.{needs}
 use Rattle.octets.proofs.copy_rest.Statement.{statement}
 use Rattle.octets.proofs.copy_rest.Tie as tie

@@ -7,7 +7,7 @@ use lib.ListN.{length, getD, length-set}
 use lib.Seq.{paste, paste-zero}
 use denote.Ref.{now}
 use Rattle.rules.specs.Octets.{window}
-use Rattle.octets.proofs.Laws.{paste-splice, splice-whole}
+use Rattle.copying.proofs.Laws.{paste-splice, splice-whole}
 use Rattle.rules.proofs.Windows.{window-length, octet-window}
 use Rattle.octets.proofs.Windows.{paste-front}
 use borrow.Author.Needs.{needs}

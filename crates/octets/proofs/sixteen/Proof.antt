@@ -2,7 +2,7 @@ use mathlib.Core.Path.{sym}
 use Prim.Native.Nat.{_+_, _≤_}
 use lib.ListN.{length}
 use denote.Ref.{now}
-use Rattle.octets.proofs.Laws.{part-count, length-part}
+use Rattle.copying.proofs.Laws.{part-count, length-part}
 use Rattle.octets.proofs.Windows.{window-part}
 use borrow.Author.Needs.{needs}
 use Rattle.octets.proofs.sixteen.Statement.{statement}

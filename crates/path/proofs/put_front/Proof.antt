@@ -1,6 +1,6 @@
 use Rattle.rules.proofs.Plans.{ipv6-before}
 use Rattle.rules.specs.Plan.{pathFront}
-use Rattle.octets.proofs.Laws.{next, run-as}
+use Rattle.copying.proofs.Laws.{next, run-as}
 use native.Mathlib.Omega.{arith}
 use Prim.Native.Nat.{_+_, _-_, _*_}
 use mathlib.Core.List.{[], _∷_}

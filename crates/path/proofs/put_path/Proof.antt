@@ -1,5 +1,5 @@
 use Rattle.path.proofs.Heads.{tail-first, path-put}
-use Rattle.octets.proofs.Laws.{run-as}
+use Rattle.copying.proofs.Laws.{run-as}
 use Rattle.rules.specs.Table.{addressesAt}
 use Rattle.rules.specs.Plan.{pathFront, tailOf, headAlong}
 use denote.Ref.{now}

@@ -4,7 +4,7 @@ use native.Mathlib.Nat.{mod-eq-of-lt}
 use native.Mathlib.Omega.{arith}
 use Rattle.rules.specs.Octets.{number}
 use Rattle.rules.specs.Prefix.{clear}
-use Rattle.octets.proofs.Words.{number-small}
+use Rattle.numbers.proofs.Words.{number-small}
 use Rattle.prefix.proofs.Prefixes.{clear-front, clear-back, clear-set}
 use borrow.Author.Needs.{needs}
 use Rattle.prefix.proofs.clear16.Statement.{statement}

@@ -3,7 +3,7 @@ use Prim.Native.Nat.{ℕ, _*_, _^_, _<_}
 use native.Mathlib.Omega.{arith}
 use Rattle.rules.specs.Octets.{number}
 use Rattle.rules.specs.Prefix.{firstBits, under}
-use Rattle.octets.proofs.Words.{number-small}
+use Rattle.numbers.proofs.Words.{number-small}
 use Rattle.prefix.proofs.Prefixes.{under-none, under-front, under-same, under-differ}
 use borrow.Author.Needs.{needs}
 use Rattle.prefix.proofs.under16.Statement.{statement}

@@ -1,5 +1,5 @@
 use mathlib.Core.Path.{_∙_}
-use Rattle.octets.proofs.Words.{number-two}
+use Rattle.numbers.proofs.Words.{number-two}
 use borrow.Author.Needs.{needs}
 use Rattle.records.proofs.count_at.Statement.{statement}
 use Rattle.records.proofs.count_at.Tie as tie

@@ -1,7 +1,7 @@
 use mathlib.Core.Path.{_≡_, sym}
 use Prim.Native.Nat.{ℕ, _+_, _-_}
 use native.Mathlib.Omega.{arith}
-use Rattle.octets.proofs.Laws.{length-part}
+use Rattle.copying.proofs.Laws.{length-part}
 use Rattle.octets.proofs.Windows.{window-part}
 use borrow.Author.Needs.{needs}
 use Rattle.records.proofs.part.Statement.{statement}

@@ -1,7 +1,7 @@
 use Rattle.near.proofs.AtD4.{other4-judged, other4-carried-out, d4-refused, echo4-answered, d4-head, d4-size}
 use Rattle.path.proofs.Judged.{GpduRead}
 use Rattle.answer.proofs.Calling.{Judged, plan-no-room, plan-sent}
-use Rattle.octets.proofs.Laws.{run-count}
+use Rattle.copying.proofs.Laws.{run-count}
 use Rattle.rules.specs.Rule as Rule
 use Rattle.rules.specs.Session.{innerProtocol}
 use Rattle.rules.specs.D4.{addressBehind, atD4}

@@ -1,5 +1,5 @@
 use Rattle.near.proofs.AtD4.{put-none, put-some}
-use Rattle.octets.proofs.Laws.{run-as}
+use Rattle.copying.proofs.Laws.{run-as}
 use Rattle.rules.specs.Ipv6.{ipv6}
 use Rattle.rules.specs.Rule as Rule
 use Rattle.rules.specs.Plan.{headAlong}

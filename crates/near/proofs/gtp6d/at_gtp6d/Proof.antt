@@ -1,7 +1,7 @@
 use Rattle.near.proofs.AtGtp6D.{Planned, other6-judged, other6-carried-out, gtp6D-planned, gtp6D-refused, echo6-answered}
 use Rattle.path.proofs.Judged.{GpduRead}
 use Rattle.answer.proofs.Calling.{Judged, plan-no-room, plan-sent}
-use Rattle.octets.proofs.Laws.{run-count}
+use Rattle.copying.proofs.Laws.{run-count}
 use Rattle.rules.specs.Plan.{carryOut, atGtp6D, gPduPlan6}
 use denote.Ref.{now}
 use native.Mathlib.Omega.{arith}

@@ -2,10 +2,10 @@ use Prim.Native.Nat.{ℕ}
 use native.Mathlib.Nat.{add-zero}
 use native.Mathlib.Omega.{arith}
 use Rattle.rules.specs.Octets.{number}
-use Rattle.octets.proofs.Words.{join-first, join-last}
+use Rattle.numbers.proofs.Words.{join-first, join-last}
 use borrow.Author.Needs.{needs}
-use Rattle.octets.proofs.numbers.two.Statement.{statement}
-use Rattle.octets.proofs.numbers.two.Tie as tie
+use Rattle.numbers.proofs.two.Statement.{statement}
+use Rattle.numbers.proofs.two.Tie as tie
 
 returns : tie.Need-returns
 unfolding number

@@ -6,9 +6,9 @@ use lib.ListN.{length, take, drop, length-drop}
 use lib.Seq.{take-length}
 use denote.Ref.{now}
 use Rattle.rules.specs.Octets.{splice}
-use Rattle.octets.proofs.Laws.{splice-nil, part-count, length-part, tail-all, chain-part}
-use Rattle.octets.proofs.copy_blocks.Statement.{statement}
-use Rattle.octets.proofs.copy_blocks.Tie as tie
+use Rattle.copying.proofs.Laws.{splice-nil, part-count, length-part, tail-all, chain-part}
+use Rattle.copying.proofs.copy_blocks.Statement.{statement}
+use Rattle.copying.proofs.copy_blocks.Tie as tie
 
 abbrev Inv-loop : tie.InvT-loop
 Inv-loop out₀ at src done₀ out done = (done ≤ length src) × (out ≡ splice out₀ at (take done src)) × (length out ≡ length out₀)

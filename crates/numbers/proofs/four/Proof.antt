@@ -2,10 +2,10 @@ use Prim.Native.Nat.{ℕ, _+_, _*_}
 use native.Mathlib.Nat.{add-zero}
 use native.Mathlib.Omega.{arith}
 use Rattle.rules.specs.Octets.{number}
-use Rattle.octets.proofs.Words.{join, join-first, join-last}
+use Rattle.numbers.proofs.Words.{join, join-first, join-last}
 use borrow.Author.Needs.{needs}
-use Rattle.octets.proofs.numbers.four.Statement.{statement}
-use Rattle.octets.proofs.numbers.four.Tie as tie
+use Rattle.numbers.proofs.four.Statement.{statement}
+use Rattle.numbers.proofs.four.Tie as tie
 
 returns : tie.Need-returns
 unfolding number

@@ -3,10 +3,10 @@ use native.Mathlib.Nat.{sub-zero}
 use native.Mathlib.Omega.{arith}
 use denote.Ref.{now}
 use Rattle.rules.specs.Octets.{splice}
-use Rattle.octets.proofs.Laws.{splice-part-read}
+use Rattle.copying.proofs.Laws.{splice-part-read}
 use borrow.Author.Needs.{needs}
-use Rattle.octets.proofs.copy_block.Statement.{statement}
-use Rattle.octets.proofs.copy_block.Tie as tie
+use Rattle.copying.proofs.copy_block.Statement.{statement}
+use Rattle.copying.proofs.copy_block.Tie as tie
 
 returns : tie.Need-returns
 returns c =

@@ -8,7 +8,7 @@ use lib.ListN.{length, take, drop, length-append, length-drop, take-append-drop,
 use lib.Seq.{take-all, paste, take-length, length-take-le, take-at, drop-at, drop-append-add, drop-drop, take-add}
 use lib.Seq.{take-take, take-append-le, drop-append-le}
 use Rattle.rules.specs.Octets.{splice}
-use Rattle.octets.specs.Run.{Run}
+use Rattle.copying.specs.Run.{Run}
 
 -- what stands before the rest has the length that it should
 head-length : (o : List ℕ) (a : ℕ) (x : List ℕ) → a ≤ length o → length (take a o ++ x) ≡ a + length x
