@@ -2,7 +2,7 @@
 -- packet.
 use mathlib.Core.Path.{_≡_, sym, ap, _∙_}
 use mathlib.Core.Bool.{Bool, true, cond}
-use mathlib.Core.List.{List, [], _∷_, _++_, append-assoc}
+use mathlib.Core.List.{List, [], _∷_, _++_}
 use Prim.Native.Nat.{ℕ, _+_, _-_, _*_}
 use native.Mathlib.Nat.{add-zero}
 use lib.Dec.{eqb}
@@ -12,7 +12,7 @@ use Rattle.rules.specs.Assigned.{downlink, gPdu, gtpuPort, pduSessionContainer}
 use Rattle.rules.specs.Answer.{Row, row, any, verdict, first}
 use Rattle.rules.specs.Args.{Args}
 use Rattle.rules.specs.Gtpu as Gtpu
-use Rattle.rules.specs.Gtpu.{udp, flowOctet, gtpuFlags, datagramBefore, datagramOctets}
+use Rattle.rules.specs.Gtpu.{udp, flowOctet, gtpuFlags, datagramBefore}
 use Rattle.rules.specs.Datagram.{datagram}
 use Rattle.rules.specs.declared.Refusal.{Refusal}
 use Rattle.rules.specs.declared.Verdict.{Verdict}
@@ -78,21 +78,16 @@ module _ (r : Row) (rs : List Row) (v : Verdict) (judged : v ≡ verdict (r ∷ 
 -- WRITING
 
 -- from the octets of the TEID, one by one
-pub datagram-written : (port direction size flow : ℕ) (teid : List ℕ) (x : Args) → length teid ≡ 4 → teid ≡ x .teid
+pub datagram-written : (port direction checksum size flow : ℕ) (teid : List ℕ) (x : Args) → length teid ≡ 4 → teid ≡ x .teid
     → flow ≡ flowOctet direction (x .qfi) (x .reflective)
-    → udp port gtpuPort (24 + size) 0
+    → udp port gtpuPort (24 + size) checksum
     (gtpuFlags ∷ gPdu ∷ put16 (8 + size)
     (octet teid 0 ∷ octet teid 1 ∷ octet teid 2 ∷ octet teid 3
     ∷ 0 ∷ 0 ∷ 0 ∷ pduSessionContainer ∷ 1 ∷ (direction * 16) ∷ flow ∷ 0 ∷ []))
-    ≡ datagramBefore port direction x size []
+    ≡ datagramBefore port direction checksum x size []
 unfolding window
-datagram-written port direction size flow teid x l t f =
+datagram-written port direction checksum size flow teid x l t f =
     let e : window teid 0 4 ≡ x .teid = window-all teid 4 l ∙ t in
-    λ i. udp port gtpuPort (24 + size) 0
+    λ i. udp port gtpuPort (24 + size) checksum
     (gtpuFlags ∷ gPdu ∷ put16 (8 + size)
     (e i ++ (0 ∷ 0 ∷ 0 ∷ pduSessionContainer ∷ 1 ∷ (direction * 16) ∷ f i ∷ 0 ∷ [])))
-
--- with its inner packet
-pub datagram-whole : (port direction : ℕ) (x : Args) (inner : List ℕ)
-    → datagramBefore port direction x (length inner) [] ++ inner ≡ datagramOctets port direction x inner
-datagram-whole port direction x inner = rw append-assoc

@@ -11,7 +11,6 @@ ghost use Rattle.rules.specs.Answer.{row, differs, any, verdict};
 ghost use Rattle.rules.specs.Datagram.{datagram, notGtpu, badUdp, badGtpu, extended, badExtensions, badContainer, badInner};
 ghost use Rattle.rules.specs.Datagram.{gPduRows, innerRows};
 ghost use Rattle.rules.specs.Gtpu as Gtpu;
-ghost use Rattle.copying.specs.Run.{Run};
 ghost use Rattle.args.specs.Value.{value};
 ghost use Rattle.gtpu.specs.Reading.{viewOf, argsOf};
 
@@ -245,30 +244,29 @@ pub fn inner_at(g: rules::Datagram) -> usize
     extension_end(g.extensionUnits)
 }
 
-// The 24 octets before an inner packet of `size` octets: UDP checksum, sequence number and N-PDU number are 0.
-pub fn put_datagram(
-    out: &mut [u8],
-    at: usize,
+// The 24 octets before an inner packet of `size` octets: sequence number and N-PDU number are 0.
+pub fn head_of(
     port: u16,
     direction: u8,
+    checksum: u16,
     args: args::Args,
     size: usize,
-)
-    requires { ⌜ (at + 24 ≤ length (now out)) × (24 + size < 65536) × (direction < 16) ⌝ }
-    ensures { λ _. ⌜ Run (now (out .entry)) at 24 (Gtpu.datagramBefore port direction (value args) size []) (now (out .exit)) ⌝ }
+) -> [u8; 24]
+    requires { ⌜ (24 + size < 65536) × (direction < 16) ⌝ }
+    ensures { λ r. ⌜ r ≡ Gtpu.datagramBefore port direction checksum (value args) size [] ⌝ }
 {
     let all = 24 + size;
     let message = 8 + size;
     let teid = args.teid();
-    let head = [
+    [
         (port / 256) as u8,
         (port % 256) as u8,
         (assigned::GTPU_PORT / 256) as u8,
         (assigned::GTPU_PORT % 256) as u8,
         (all / 256) as u8,
         (all % 256) as u8,
-        0,
-        0,
+        (checksum / 256) as u8,
+        (checksum % 256) as u8,
         FLAGS,
         assigned::G_PDU,
         (message / 256) as u8,
@@ -285,6 +283,5 @@ pub fn put_datagram(
         direction * 16,
         args.flow_octet(direction),
         0,
-    ];
-    copying::copy_to(out, at, &head);
+    ]
 }

@@ -41,31 +41,31 @@ module _ (p : List ℕ) (at : ℕ) (g : Datagram) (place size first : ℕ) (r : 
   unfolding datagram
   gpdu-place = r .begins ∙ ap (λ (g : Datagram). at + (20 + 4 * g .extensionUnits)) (r .view)
 
-  -- rows before, then those from row 9 on
-  module _ (front : List Row) (direction session field : ℕ) (v : Verdict)
-      (judged : v ≡ verdict (front ++ (messageRows g ++ typeRows direction session g size first field))) where
+  -- rows before, then those from row 9 on, with those of the checksum among them
+  module _ (front sum : List Row) (direction session field : ℕ) (v : Verdict)
+      (judged : v ≡ verdict (front ++ (messageRows sum g ++ typeRows direction session g size first field))) where
     -- of an Echo Request, where nothing else is asked
     pub echo-verdict : isEcho (datagram (drop at p)) ≡ true → (front′ : List Row) → front ≡ front′
-        → v ≡ verdict (front′ ++ messageRows (datagram (drop at p)))
+        → v ≡ verdict (front′ ++ messageRows sum (datagram (drop at p)))
     unfolding typeRows
     echo-verdict t front′ ef =
-        judged ∙ (λ i. verdict (ef i ++ (messageRows (r .view i) ++ typeRows direction session (r .view i) size first field)))
-        ∙ rw (t, append-nil (messageRows (datagram (drop at p))))
+        judged ∙ (λ i. verdict (ef i ++ (messageRows sum (r .view i) ++ typeRows direction session (r .view i) size first field)))
+        ∙ rw (t, append-nil (messageRows sum (datagram (drop at p))))
 
     -- of any other message
     module _ (other : isEcho (datagram (drop at p)) ≡ false) where
-      gpdu-judged : v ≡ verdict (front ++ (messageRows g ++ (gPduRows direction g ++ innerRows session size first field)))
+      gpdu-judged : v ≡ verdict (front ++ (messageRows sum g ++ (gPduRows direction g ++ innerRows session size first field)))
       unfolding typeRows
       gpdu-judged = judged ∙ rw (ap (λ (g : Datagram). isEcho g) (r .view) ∙ other)
 
       pub gpdu-verdict : (inner : List ℕ) → drop place p ≡ inner → (front′ : List Row) → front ≡ front′ → (field′ : ℕ) → field ≡ field′
           → let u = datagram (drop at p) in
-          v ≡ verdict (front′ ++ (messageRows u ++ (gPduRows direction u ++ innerRows session (length inner) (octet inner 0) field′)))
+          v ≡ verdict (front′ ++ (messageRows sum u ++ (gPduRows direction u ++ innerRows session (length inner) (octet inner 0) field′)))
       gpdu-verdict inner e front′ ef field′ ff =
           let n : size ≡ length inner = r .holds ∙ sym (length-drop place p) ∙ ap length e in
           let f : first ≡ octet inner 0 =
           r .starts ∙ ap (octet p) (sym (add-zero place)) ∙ sym (getD-drop place p 0 0) ∙ ap (λ (l : List ℕ). octet l 0) e in
-          gpdu-judged ∙ (λ i. verdict (ef i ++ (messageRows (r .view i) ++ (gPduRows direction (r .view i) ++ innerRows session (n i) (f i)
+          gpdu-judged ∙ (λ i. verdict (ef i ++ (messageRows sum (r .view i) ++ (gPduRows direction (r .view i) ++ innerRows session (n i) (f i)
           (ff i)))))
 
       -- the inner packet lies within, and the length field holds
@@ -73,8 +73,8 @@ module _ (p : List ℕ) (at : ℕ) (g : Datagram) (place size first : ℕ) (r : 
       unfolding messageRows gPduRows innerRows
       gpdu-bounds q =
           let inners = innerRows session size first field in
-          let all = front ++ (messageRows g ++ (gPduRows direction g ++ inners)) in
-          let m = none-parts front (messageRows g) (gPduRows direction g) inners (pass-none all (sym gpdu-judged ∙ q)) in
+          let all = front ++ (messageRows sum g ++ (gPduRows direction g ++ inners)) in
+          let m = none-parts front (messageRows sum g) (gPduRows direction g) inners (pass-none all (sym gpdu-judged ∙ q)) in
           let pdu = m .1 .1 .0 in
           let x : extended g ≡ true = not-false (extended g) (pdu .1 .1 .0 .0) in
           let c : Clear (given (extended g) _) = pdu .1 .0 in

@@ -1,5 +1,5 @@
 // What D, Di and D4 ask of a message: rows 9 to 15, or 9 and 10 of an Echo Request, each looked at only where those before it pass; and the
-// next header of the inner packet of a G-PDU.
+// next header of the inner packet of a G-PDU. Row 18, of D and Di, is asked by these.
 ghost use mathlib.Core.Path.{_≡_};
 ghost use mathlib.Core.List.{[], _∷_, _++_};
 ghost use Rattle.rules.specs.Answer.{row, verdict};
@@ -44,7 +44,7 @@ fn judge_type(
 }
 
 // Row 10 and those behind it.
-fn judge_message(
+pub fn judge_message(
     direction: u8,
     session: u8,
     g: rules::Datagram,
@@ -61,7 +61,7 @@ fn judge_message(
     }
 }
 
-// Row 9 and those behind it.
+// Row 9 and those behind it, where there is no row 18: over IPv4 no checksum is verified.
 pub fn judge(
     direction: u8,
     session: u8,
@@ -70,7 +70,7 @@ pub fn judge(
     first: u8,
     field: usize,
 ) -> rules::Verdict
-    ensures { λ r. ⌜ r ≡ verdict (messageRows g ++ typeRows direction session g size first field) ⌝ }
+    ensures { λ r. ⌜ r ≡ verdict (messageRows [] g ++ typeRows direction session g size first field) ⌝ }
 {
     let udp = gtpu::judge_udp(g);
     match udp {

@@ -1,4 +1,5 @@
-use Rattle.rules.proofs.Checksums.{wordSum, onesSum-fold, octets-each}
+use Rattle.rules.specs.Checksum.{wordSum}
+use Rattle.rules.proofs.Checksums.{onesSum-fold, octets-each}
 use Rattle.rules.specs.Octets.{Octets, window}
 use native.Mathlib.Omega.{arith}
 use Prim.Native.Nat.{ℕ, _+_, _-_, _*_, _/_}
