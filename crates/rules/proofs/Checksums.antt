@@ -1,14 +1,21 @@
 -- The Internet checksum in a closed form, and the law of the IPv4 header that we write: its sum is FFFF.
 use mathlib.Core.Path.{_≡_, refl, ap, _∙_}
 use mathlib.Core.List.{List, [], _∷_, _++_, append-assoc}
-use Prim.Native.Nat.{ℕ, zero, suc, _+_, _-_, _*_, _/_, _<_}
+use Prim.Native.Nat.{ℕ, zero, suc, _+_, _-_, _*_, _/_, _%_, _<_}
 use native.Mathlib.Omega.{arith}
 use lib.ListN.{length, length-append}
 use Rattle.rules.specs.Octets.{Octets, window, put16}
-use Rattle.rules.specs.Checksum.{onesAdd, onesSum, wordSum, checksum}
+use Rattle.rules.specs.Checksum.{onesAdd, onesSum, checksum, wordSum}
 use Rattle.rules.specs.Ipv4 as Ipv4
 use Rattle.rules.specs.Ipv4.{ipv4Front, ipv4}
 use Rattle.rules.proofs.Windows.{window-front}
+
+-- the words of a first part of even length, and those of the rest
+pub wordSum-append : (s t : List ℕ) → length s % 2 ≡ 0 → wordSum (s ++ t) ≡ wordSum s + wordSum t
+unfolding wordSum
+wordSum-append [] t h = omega arith
+wordSum-append (a ∷ []) t h = absurd (omega arith)
+wordSum-append (a ∷ b ∷ s) t h = omega (arith, wordSum-append s t (omega arith))
 
 -- a number brought down to 16 bits, its carries added at the bottom: 0 from 0 alone, else 1 to FFFF
 abbrev pub fold : ℕ → ℕ

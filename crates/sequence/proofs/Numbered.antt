@@ -10,6 +10,7 @@ use lib.ListN.{length, drop, length-drop}
 use lib.Seq.{getD-drop}
 use borrow.Author.Tests.{le-leb, lt-ltb, eq-eqb, ne-eqb, eqb-true}
 use Rattle.rules.specs.Octets.{octet, Octets, window, read16, number}
+use Rattle.rules.specs.Checksum.{wordSum}
 use Rattle.rules.specs.Ipv4 as Ipv4
 use Rattle.rules.specs.Header.{header, malformed, badChain, segmentsRemain}
 use Rattle.rules.specs.Datagram.{datagram, notGtpu, messageRows}
@@ -19,7 +20,7 @@ use Rattle.rules.specs.D4.{gtp4Rows}
 use Rattle.rules.specs.Header4.{header4}
 use Rattle.rules.proofs.Windows.{octets-window}
 use Rattle.rules.proofs.Rows.{Clear, None, clear, read}
-use Rattle.rules.proofs.Checksums.{wordSum, fold, onesSum-fold}
+use Rattle.rules.proofs.Checksums.{fold, onesSum-fold}
 use Rattle.sequence.specs.Sequence.{rows9To11, gPduRows6, gPduRows4, numbered, foundIn, sequence6, sequence4}
 use Rattle.sequence.specs.Numbered.{GPduAt, Whole6, SpentSrh, UdpAt, Numbered6, headerWords, Numbered4, numberAt, Gives6, Gives4}
 use Rattle.sequence.proofs.Numbering.{passed-found, found-passed}
