@@ -18,17 +18,10 @@ use Rattle.rules.specs.Gtpu.{udp, gtpu}
 use Rattle.rules.specs.Answer.{differs}
 use Rattle.rules.specs.AddsUp.{wordsOf, total, AddsUp, OneChanged}
 use Rattle.rules.specs.Written.{TrueChecksum}
-use Rattle.rules.proofs.Checksums.{fold, onesSum-fold, octets-append, octets-each}
+use Rattle.rules.proofs.Checksums.{wordSum-append, fold, onesSum-fold, octets-append, octets-each}
 
--- SUMS OF WORDS
+-- SUMS OF WORDS, BY THEIR PLACE
 
-pub wordSum-append : (s t : List ℕ) → length s % 2 ≡ 0 → wordSum (s ++ t) ≡ wordSum s + wordSum t
-unfolding wordSum
-wordSum-append [] t h = omega arith
-wordSum-append (a ∷ []) t h = absurd (omega arith)
-wordSum-append (a ∷ b ∷ s) t h = ap (λ (n : ℕ). a * 256 + b + n) (wordSum-append s t (omega arith)) ∙ omega arith
-
--- by their place
 module _ (a b : ℕ) (s : List ℕ) where
   words-front : (n : ℕ) → wordsOf (suc n) (a ∷ b ∷ s) ≡ a * 256 + b + wordsOf n s
   unfolding wordsOf
