@@ -7,12 +7,12 @@ ghost use mathlib.Core.List.{[], _++_};
 ghost use Prim.Native.Nat.{_≤_, _<_};
 ghost use lib.ListN.{length, drop};
 ghost use Rattle.rules.specs.Octets.{window, splice};
-ghost use Rattle.rules.specs.Ipv6.{ipv6};
+ghost use Rattle.rules.specs.Ipv6.{ipv6, source, destination};
 ghost use Rattle.rules.specs.Ipv4.{ipv4};
 ghost use Rattle.rules.specs.Gtpu.{echoDatagram};
 ghost use Rattle.rules.specs.Answer.{any, Sent, settle, unless};
 ghost use Rattle.rules.specs.Datagram.{datagram};
-ghost use Rattle.rules.specs.Echo.{isEcho, badEcho, echoRows, echoAnswer};
+ghost use Rattle.rules.specs.Echo.{isEcho, badEcho, echoRows, echoAnswer, echoChecksum};
 ghost use Rattle.copying.specs.Run.{Run};
 ghost use Rattle.answer.specs.Answered.{Answered};
 ghost use Rattle.echo.specs.Reply.{replyTo6, replyTo4};
@@ -46,9 +46,9 @@ pub fn is_echo(g: rules::Datagram) -> bool
     g.messageType == assigned::ECHO_REQUEST
 }
 
-// UDP and GTP-U of a reply to a port, with a sequence number.
-fn response(port: u16, number: u16) -> [u8; 22]
-    ensures { λ r. ⌜ r ≡ echoDatagram port number ⌝ }
+// UDP and GTP-U of a reply to a port, with a UDP checksum and a sequence number.
+fn response(port: u16, checksum: u16, number: u16) -> [u8; 22]
+    ensures { λ r. ⌜ r ≡ echoDatagram port checksum number ⌝ }
 {
     [
         (assigned::GTPU_PORT / 256) as u8,
@@ -57,8 +57,8 @@ fn response(port: u16, number: u16) -> [u8; 22]
         (port % 256) as u8,
         0,
         DATAGRAM,
-        0,
-        0,
+        (checksum / 256) as u8,
+        (checksum % 256) as u8,
         FLAGS,
         assigned::ECHO_RESPONSE,
         0,
@@ -86,14 +86,29 @@ fn bad_echo(packet: &[u8], at: usize) -> bool
     (flags / 2 % 2 != 1) | ((teid[0] != 0) | ((teid[1] != 0) | ((teid[2] != 0) | (teid[3] != 0))))
 }
 
-// The reply to the request whose datagram begins there: to its source port, with its sequence number.
-fn response_to(packet: &[u8], at: usize) -> [u8; 22]
+// The reply to the request whose datagram begins there: to its source port, with its sequence number; over IPv4 the checksum is 0.
+fn response4(packet: &[u8], at: usize) -> [u8; 22]
     requires { ⌜ at < 65536 ⌝ }
-    ensures { λ r. ⌜ r ≡ echoAnswer (drop at (now (packet .entry))) ⌝ }
+    ensures { λ r. ⌜ r ≡ echoAnswer 0 (drop at (now (packet .entry))) ⌝ }
 {
     let port = octets::number_at(packet, at, SOURCE_PORT_AT);
     let number = octets::number_at(packet, at, SEQUENCE_NUMBER_AT);
-    response(port, number)
+    response(port, 0, number)
+}
+
+// The same over IPv6, where the checksum is that of the reply, between the packet's addresses exchanged.
+fn response6(packet: &[u8], at: usize) -> [u8; 22]
+    requires { ⌜ at < 65536 ⌝ }
+    ensures { λ r. ⌜ r ≡ echoAnswer (echoChecksum (destination (now (packet .entry))) (source (now (packet .entry)))
+        (drop at (now (packet .entry)))) (drop at (now (packet .entry))) ⌝ }
+{
+    let port = octets::number_at(packet, at, SOURCE_PORT_AT);
+    let number = octets::number_at(packet, at, SEQUENCE_NUMBER_AT);
+    let from = octets::window16(packet, 24);
+    let to = octets::window16(packet, 8);
+    let bare = response(port, 0, number);
+    let sum = udp::checksum_of(from, to, &bare);
+    response(port, sum, number)
 }
 
 fn put_reply6(
@@ -140,7 +155,7 @@ fn send6(packet: &[u8], at: usize, class: u8, hops: u8, out: &mut [u8]) -> Answe
     ensures { λ a. ⌜ Answered (settle (length (now (out .entry))) (Sent (replyTo6 (now (packet .entry)) at class hops)))
         (now (out .entry)) a (now (out .exit)) ⌝ }
 {
-    let datagram = response_to(packet, at);
+    let datagram = response6(packet, at);
     let source = octets::window16(packet, 24);
     let destination = octets::window16(packet, 8);
     let a = answer::send(REPLY6, packet, packet.len(), out);
@@ -167,7 +182,7 @@ fn send4(packet: &[u8], at: usize, tos: u8, ttl: u8, out: &mut [u8]) -> Answer
     ensures { λ a. ⌜ Answered (settle (length (now (out .entry))) (Sent (replyTo4 (now (packet .entry)) at tos ttl)))
         (now (out .entry)) a (now (out .exit)) ⌝ }
 {
-    let datagram = response_to(packet, at);
+    let datagram = response4(packet, at);
     let a = answer::send(REPLY4, packet, packet.len(), out);
     if a.number == 0 {
         exchange4(packet, out);

@@ -50,8 +50,8 @@ returns c =
     reply-sent _ p (c .before .before .before .before .before .before .before .before .before .before .before .before .before .before
     .before .before .send .ensures)
     ((λ i. ipv4 (a .tos) 42 (a .ttl) (source i) (destination i) [] ++ c .before .before .before .before .before .before .before .before
-    .before .before .before .before .before .before .before .before .before .before .response-to .ensures i)
-    ∙ ipv4-before (a .tos) 42 (a .ttl) (window p 16 4) (window p 12 4) (echoAnswer (drop (a .at) p)))
+    .before .before .before .before .before .before .before .before .before .before .response4 .ensures i)
+    ∙ ipv4-before (a .tos) 42 (a .ttl) (window p 16 4) (window p 12 4) (echoAnswer 0 (drop (a .at) p)))
     (c .before .before .before .before .before .before .before .before .before .before .before .before .if1 .taken) (written-over _ _ p
     put long (c .before .before .put-reply4 .ensures))
 
@@ -60,12 +60,12 @@ returns-2 c =
     let a = c .before .before .before .before .before .before .before .before .before .args in
     let p = now (a .packet) in
     reply-no-room _ p (c .before .before .before .before .send .ensures)
-    ((λ i. ipv4 (a .tos) 42 (a .ttl) (window p 16 4) (window p 12 4) [] ++ c .before .before .before .before .before .before .response-to
+    ((λ i. ipv4 (a .tos) 42 (a .ttl) (window p 16 4) (window p 12 4) [] ++ c .before .before .before .before .before .before .response4
     .ensures i)
-    ∙ ipv4-before (a .tos) 42 (a .ttl) (window p 16 4) (window p 12 4) (echoAnswer (drop (a .at) p)))
+    ∙ ipv4-before (a .tos) 42 (a .ttl) (window p 16 4) (window p 12 4) (echoAnswer 0 (drop (a .at) p)))
     (c .if1 .left) (simp length-append (omega (
       arith,
-      c .before .before .before .before .before .before .response-to .ok,
+      c .before .before .before .before .before .before .response4 .ok,
       window-length p
           16 4,
       window-length p 12 4,
