@@ -124,16 +124,16 @@ module _ (r p : List ℕ) (h : Header4) (arrived : WellFormed4 p h) (g : Datagra
 
   -- what the rows say
   module _ (v : Verdict) (field : ℕ) (hl : field ≡ cond (eqb w 0) size (24 + 16 * w + size))
-      (judged : v ≡ verdict (gtp4Rows h g ++ (messageRows g ++ typeRows (Rule.direction r) (Rule.session r) g size first field))) where
+      (judged : v ≡ verdict (gtp4Rows h g ++ (messageRows [] g ++ typeRows (Rule.direction r) (Rule.session r) g size first field))) where
     front-here : gtp4Rows h g ≡ gtp4Rows (header4 p) (datagram (datagramIn4 p))
     front-here = λ i. gtp4Rows (arrived .view i) (read .view i)
 
     -- of an Echo Request, before row 17
     abbrev echo-front : List Row
-    echo-front = gtp4Rows (header4 p) (datagram (datagramIn4 p)) ++ messageRows (datagram (datagramIn4 p))
+    echo-front = gtp4Rows (header4 p) (datagram (datagramIn4 p)) ++ messageRows [] (datagram (datagramIn4 p))
 
     echo4-front : isEcho (datagram (datagramIn4 p)) ≡ true → v ≡ verdict echo-front
-    echo4-front t = echo-verdict p 20 g place size first read (gtp4Rows h g) (Rule.direction r) (Rule.session r) field v judged t _
+    echo4-front t = echo-verdict p 20 g place size first read (gtp4Rows h g) [] (Rule.direction r) (Rule.session r) field v judged t _
         front-here
 
     echo4-rows : echoPlan4 r p .rows ≡ echo-front ++ echoRows (datagram (datagramIn4 p))
@@ -147,9 +147,9 @@ module _ (r p : List ℕ) (h : Header4) (arrived : WellFormed4 p h) (g : Datagra
         let z : size ≡ length (carried4 p .inner) = read .holds ∙ sym (length-drop place p) ∙ ap length inner-here in
         let f : field ≡ pastWaypointsPayload (Rule.waypoints r) (carried4 p .inner) =
         hl ∙ (λ i. cond (eqb (hw i) 0) (z i) (24 + 16 * hw i + z i)) ∙ payload-past r (Rule.waypointCount r) (carried4 p .inner) in
-        let bounds = gpdu-bounds p 20 g place size first read (gtp4Rows h g) (Rule.direction r) (Rule.session r) field v judged t in
+        let bounds = gpdu-bounds p 20 g place size first read (gtp4Rows h g) [] (Rule.direction r) (Rule.session r) field v judged t in
         record {
-          rows = gpdu-verdict p 20 g place size first read (gtp4Rows h g) (Rule.direction r) (Rule.session r) field v judged t
+          rows = gpdu-verdict p 20 g place size first read (gtp4Rows h g) [] (Rule.direction r) (Rule.session r) field v judged t
               (carried4 p .inner) inner-here _ front-here _ f;
           at = gPdu4-place;
           within = λ q. bounds q .0;

@@ -1,23 +1,26 @@
 -- D and Di from their views: their rows, their head and the place of the inner packet are those of the plan.
 use mathlib.Core.Path.{_≡_, refl, sym, ap, _∙_, subst}
-use mathlib.Core.Bool.{Bool, true, false}
+use mathlib.Core.Bool.{Bool, true, false, cond}
 use mathlib.Core.List.{List, [], _∷_, _++_, append-assoc}
 use Prim.Native.Nat.{ℕ, _+_, _-_, _*_, _≤_, _<_}
 use native.Mathlib.Omega.{arith}
+use lib.Dec.{eqb}
 use lib.ListN.{length, drop, length-append, length-drop}
 use Rattle.rules.specs.Octets.{octet, window}
+use Rattle.rules.specs.Assigned.{routingHeader}
 use Rattle.rules.specs.Entry as Entry
 use Rattle.rules.specs.Policy as Policy
 use Rattle.rules.specs.Ipv6 as Ipv6
+use Rattle.rules.specs.Srh as Srh
 use Rattle.rules.specs.Gtpu as Gtpu
 use Rattle.rules.specs.Args.{Args}
-use Rattle.rules.specs.Answer.{Row, verdict, Sent, Refused, unless, settle}
+use Rattle.rules.specs.Answer.{Row, row, verdict, Sent, Refused, unless, settle}
 use Rattle.rules.specs.Header.{header}
-use Rattle.rules.specs.Datagram.{datagram, messageRows}
+use Rattle.rules.specs.Datagram.{datagram, badUdp, messageRows}
 use Rattle.rules.specs.Echo.{isEcho, echoRows, echoReply6}
 use Rattle.rules.specs.Session.{innerProtocol}
 use Rattle.rules.specs.Carried.{carriedBy, carried6, datagramIn6}
-use Rattle.rules.specs.Gtp6D.{gtp6Rows, rowsGtp6D, rowsEcho6}
+use Rattle.rules.specs.Gtp6D.{gtp6Rows, checksumRows, rowsGtp6D, rowsEcho6}
 use Rattle.rules.specs.D.{lastWithArgs}
 use Rattle.rules.specs.Plan.{carryOut, tailOf, headAlong, gtp6DPath, atGtp6D, echoPlan6, gPduPlan6, innerAt}
 use Rattle.rules.specs.declared.Header.{Header}
@@ -26,6 +29,7 @@ use Rattle.rules.specs.declared.Refusal.{Refusal}
 use Rattle.rules.specs.declared.Verdict.{Verdict}
 use Rattle.rules.specs.declared.Verdict.the-variants.{Pass, Refuse}
 use Rattle.rules.proofs.Windows.{window-length}
+use Rattle.rules.proofs.Rows.{pass-none, read}
 use Rattle.rules.proofs.Judging.{refused-first}
 use Rattle.rules.proofs.Paths.{addressesAt-length}
 use Rattle.rules.proofs.Sids.{withArgs-length}
@@ -50,6 +54,24 @@ pub record Planned (plan : PathPlan) (holder wanted : List ℕ) (octets : ℕ) :
   pub ready : (room : ℕ) → octets ≤ room → Ready plan holder room
   pub head : headOf plan holder ≡ wanted
   pub size : length (headOf plan holder) ≡ octets
+
+-- where the upper layer begins
+pub upper-least : (p : List ℕ) (h : Header) → h ≡ header p → 40 ≤ h .upperAt
+unfolding header
+upper-least p h e = rw e (go (eqb (Ipv6.nextHeader p) routingHeader))
+  where
+    go : (b : Bool) → 40 ≤ cond b (48 + 8 * Srh.units p) 40
+    go true = omega arith
+    go false = omega arith
+
+-- row 9 passed
+pub udp-long : (p : List ℕ) (at : ℕ) (g : Datagram) (v : Verdict) → g ≡ datagram (drop at p) → v ≡ verdict (row (badUdp g) 9 ∷ []) → v ≡ Pass
+    → at + 8 ≤ length p
+unfolding datagram
+udp-long p at g v view e q =
+    let n = pass-none (row (badUdp g) 9 ∷ []) (sym e ∙ q) in
+    let s : g .size ≡ length p - at = ap (λ (g : Datagram). g .size) view ∙ length-drop at p in
+    omega (read, n .0 .0)
 
 module _ (e policy : List ℕ) (tail : ℕ) (p : List ℕ) (h : Header) (asked : Gtp6DAsked e policy tail p h) where
   upper-here : h .upperAt ≡ header p .upperAt
@@ -77,17 +99,17 @@ module _ (e policy : List ℕ) (tail : ℕ) (p : List ℕ) (h : Header) (asked :
 
     -- what the rows say
     module _ (v : Verdict)
-        (judged : v ≡ verdict (gtp6Rows h g ++ (messageRows g
+        (judged : v ≡ verdict (gtp6Rows h g ++ (messageRows (checksumRows e p) g
         ++ typeRows (Entry.direction e) (Entry.session e) g size first (8 + 16 * (n - 1 + tail) + size)))) where
       front-here : gtp6Rows h g ≡ gtp6Rows (header p) (datagram (datagramIn6 p))
       front-here = λ i. gtp6Rows (asked .arrived .view i) (here .view i)
 
       -- of an Echo Request, before row 17
       abbrev echo-front : List Row
-      echo-front = gtp6Rows (header p) (datagram (datagramIn6 p)) ++ messageRows (datagram (datagramIn6 p))
+      echo-front = gtp6Rows (header p) (datagram (datagramIn6 p)) ++ messageRows (checksumRows e p) (datagram (datagramIn6 p))
 
       echo6-front : isEcho (datagram (datagramIn6 p)) ≡ true → v ≡ verdict echo-front
-      echo6-front t = echo-verdict p (header p .upperAt) g place size first here (gtp6Rows h g) (Entry.direction e) (Entry.session e) _ v
+      echo6-front t = echo-verdict p (header p .upperAt) g place size first here (gtp6Rows h g) (checksumRows e p) (Entry.direction e) (Entry.session e) _ v
           judged t _ front-here
 
       echo6-rows : echoPlan6 e p .rows ≡ echo-front ++ echoRows (datagram (datagramIn6 p))
@@ -102,10 +124,10 @@ module _ (e policy : List ℕ) (tail : ℕ) (p : List ℕ) (h : Header) (asked :
           let path = gtp6DPath tail policy (carried6 p) in
           let k : n - 1 + tail ≡ length path = ap (λ (j : ℕ). j - 1 + tail) hn ∙ sym path-count in
           let z : size ≡ length (carried6 p .inner) = here .holds ∙ sym (length-drop place p) ∙ ap length inner-here in
-          let bounds = gpdu-bounds p (header p .upperAt) g place size first here (gtp6Rows h g) (Entry.direction e) (Entry.session e) _ v
+          let bounds = gpdu-bounds p (header p .upperAt) g place size first here (gtp6Rows h g) (checksumRows e p) (Entry.direction e) (Entry.session e) _ v
           judged t in
           record {
-            rows = gpdu-verdict p (header p .upperAt) g place size first here (gtp6Rows h g) (Entry.direction e) (Entry.session e) _ v
+            rows = gpdu-verdict p (header p .upperAt) g place size first here (gtp6Rows h g) (checksumRows e p) (Entry.direction e) (Entry.session e) _ v
                 judged
                 t (carried6 p .inner) inner-here _ front-here _ (λ i. 8 + 16 * k i + z i);
             at = gPdu6-place;

@@ -49,7 +49,7 @@ fn judge(
     field: usize,
 ) -> Verdict
     requires { ⌜ length (now r) ≡ 160 ⌝ }
-    ensures { λ v. ⌜ v ≡ verdict (gtp4Rows h g ++ (messageRows g ++ typeRows (Rule.direction (now (r .entry)))
+    ensures { λ v. ⌜ v ≡ verdict (gtp4Rows h g ++ (messageRows [] g ++ typeRows (Rule.direction (now (r .entry)))
         (Rule.session (now (r .entry))) g size first field)) ⌝ }
 {
     let outer = judge_outer(h, g);

@@ -7,19 +7,22 @@ use rules::Refusal;
 use rules::Verdict;
 use rules::assigned;
 ghost use mathlib.Core.Path.{_≡_};
-ghost use mathlib.Core.List.{_++_};
+ghost use mathlib.Core.List.{_∷_, _++_};
 ghost use Prim.Native.Nat.{_≤_};
 ghost use lib.ListN.{length};
 ghost use Rattle.rules.specs.Entry as Entry;
 ghost use Rattle.rules.specs.SoundRecord.{SoundPolicy};
-ghost use Rattle.rules.specs.Answer.{verdict, settle};
-ghost use Rattle.rules.specs.Datagram.{messageRows};
-ghost use Rattle.rules.specs.Gtp6D.{gtp6Rows};
+ghost use Rattle.rules.specs.Answer.{row, verdict, settle};
+ghost use Rattle.rules.specs.Ipv6.{source, destination};
+ghost use Rattle.rules.specs.Datagram.{badGtpu, messageRows};
+ghost use Rattle.rules.specs.UdpChecksum.{badChecksum};
+ghost use Rattle.rules.specs.Carried.{datagramIn6};
+ghost use Rattle.rules.specs.Gtp6D.{gtp6Rows, checksumRows};
 ghost use Rattle.rules.specs.Plan.{tailAt, atGtp6D};
 ghost use Rattle.args.specs.Value.{value};
 ghost use Rattle.answer.specs.Answered.{Answered};
 ghost use Rattle.path.specs.ByType.{typeRows};
-ghost use Rattle.near.specs.Asked.{Gtp6DAsked};
+ghost use Rattle.near.specs.Asked.{Gtp6DAsked, Viewed, Readable};
 ghost use Rattle.near.specs.Gtp6DPlan.{pathPlan};
 
 // How many addresses stand behind the waypoints of a path, by behaviour.
@@ -48,31 +51,83 @@ fn judge_outer(h: rules::Header, g: rules::Datagram) -> Verdict
     Verdict::Pass
 }
 
-// Rows 5 and 7 to 10, and of a message that is no Echo Request 11 to 15, for an inner packet of `size` octets that begins with `first`, and
-// the length field of what is to be sent.
-fn judge(
+// Row 18, of a datagram with a UDP header.
+fn bad_checksum(e: &[u8], h: rules::Header, packet: &[u8]) -> bool
+    requires { ⌜ (length (now e) ≡ 64) × Readable (now packet) h ⌝ }
+    ensures { λ r. ⌜ r ≡ badChecksum (Entry.zeroAllowed (now (e .entry))) (source (now (packet .entry)))
+        (destination (now (packet .entry))) (datagramIn6 (now (packet .entry))) ⌝ }
+{
+    let allowed = e[entry::ZERO_CHECKSUM] == 1;
+    udp::bad_checksum(packet, h.upperAt as usize, allowed)
+}
+
+// Rows 18 and 10, and of a message that is no Echo Request 11 to 15, for an inner packet of `size` octets that begins with `first`, and the
+// length field of what is to be sent.
+fn judge_checked(
     e: &[u8],
     h: rules::Header,
     g: rules::Datagram,
+    packet: &[u8],
     size: usize,
     first: u8,
     field: usize,
 ) -> Verdict
-    requires { ⌜ length (now e) ≡ 64 ⌝ }
-    ensures { λ r. ⌜ r ≡ verdict (gtp6Rows h g ++ (messageRows g ++ typeRows (Entry.direction (now (e .entry)))
-        (Entry.session (now (e .entry))) g size first field)) ⌝ }
+    requires { ⌜ (length (now e) ≡ 64) × Readable (now packet) h ⌝ }
+    ensures { λ r. ⌜ r ≡ verdict (checksumRows (now (e .entry)) (now (packet .entry)) ++ row (badGtpu g) 10
+        ∷ typeRows (Entry.direction (now (e .entry))) (Entry.session (now (e .entry))) g size first field) ⌝ }
+{
+    if bad_checksum(e, h, packet) {
+        return Verdict::Refuse(Refusal::bad_checksum());
+    }
+    gpdu::judge_message(
+        e[entry::DIRECTION],
+        e[entry::SESSION],
+        g,
+        size,
+        first,
+        field,
+    )
+}
+
+// Row 9 and those behind it. The checksum is looked at only where the length of its datagram is right.
+fn judge_datagram(
+    e: &[u8],
+    h: rules::Header,
+    g: rules::Datagram,
+    packet: &[u8],
+    size: usize,
+    first: u8,
+    field: usize,
+) -> Verdict
+    requires { ⌜ (length (now e) ≡ 64) × Viewed (now packet) h g ⌝ }
+    ensures { λ r. ⌜ r ≡ verdict (messageRows (checksumRows (now (e .entry)) (now (packet .entry))) g ++ typeRows
+        (Entry.direction (now (e .entry))) (Entry.session (now (e .entry))) g size first field) ⌝ }
+{
+    let datagram = gtpu::judge_udp(g);
+    match datagram {
+        Verdict::Refuse(r) => Verdict::Refuse(r),
+        Verdict::Pass => judge_checked(e, h, g, packet, size, first, field),
+    }
+}
+
+// Rows 5, 7 and 8, and those behind them.
+fn judge(
+    e: &[u8],
+    h: rules::Header,
+    g: rules::Datagram,
+    packet: &[u8],
+    size: usize,
+    first: u8,
+    field: usize,
+) -> Verdict
+    requires { ⌜ (length (now e) ≡ 64) × Viewed (now packet) h g ⌝ }
+    ensures { λ r. ⌜ r ≡ verdict (gtp6Rows h g ++ (messageRows (checksumRows (now (e .entry)) (now (packet .entry))) g ++ typeRows
+        (Entry.direction (now (e .entry))) (Entry.session (now (e .entry))) g size first field)) ⌝ }
 {
     let outer = judge_outer(h, g);
     match outer {
         Verdict::Refuse(r) => Verdict::Refuse(r),
-        Verdict::Pass => gpdu::judge(
-            e[entry::DIRECTION],
-            e[entry::SESSION],
-            g,
-            size,
-            first,
-            field,
-        ),
+        Verdict::Pass => judge_datagram(e, h, g, packet, size, first, field),
     }
 }
 
@@ -130,7 +185,7 @@ pub fn at_gtp6d(
     let place = at + gtpu::inner_at(g);
     let size = octets::saturating_sub(packet.len(), place);
     let first = octets::octet_or_0(packet, place);
-    let v = judge(e, h, g, size, first, 8 + 16 * count + size);
+    let v = judge(e, h, g, packet, size, first, 8 + 16 * count + size);
     match v {
         Verdict::Refuse(r) => Answer::refused(r),
         Verdict::Pass => {
