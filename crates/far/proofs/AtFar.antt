@@ -16,7 +16,7 @@ use Rattle.rules.specs.Args.{argsAt}
 use Rattle.rules.specs.Sound.{directionKnown}
 use Rattle.rules.specs.Answer.{Row, given, verdict, lengthRow}
 use Rattle.rules.specs.Header.{header, hasSrh, badChain, badSrh, WellFormed}
-use Rattle.rules.specs.E6.{e6Carried, e6Rows, rowsE6}
+use Rattle.rules.specs.E6.{e6Carried, e6Checksum, e6Rows, rowsE6}
 use Rattle.rules.specs.E4.{startBehind, e4Carried, e4Rows, rowsE4}
 use Rattle.rules.specs.Plan.{e6Head, e4Head, e6Plan, e4Plan}
 use Rattle.rules.specs.declared.Header.{Header}
@@ -25,7 +25,7 @@ use Rattle.rules.specs.declared.Verdict.the-variants.{Pass}
 use Rattle.rules.proofs.Windows.{window-length}
 use Rattle.rules.proofs.Rows.{Clear, None, pass-none, read}
 use Rattle.answer.proofs.Calling.{Judged}
-use Rattle.far.specs.FarRows.{farRows}
+use Rattle.far.specs.FarRows.{farRows, e6HeadOf}
 
 pub direction-below : (d : ℕ) → directionKnown d ≡ true → d < 2
 direction-below d h = go (eqb d downlink) refl
@@ -80,9 +80,13 @@ module _ (p : List ℕ) (h : Header) (s : WellFormed p h) (n : ℕ) (hn : n ≡ 
       fits = λ q. omega (read, clear-here (e6Rows e) 24 v judged q .1 .1 .1 .0 .0);
     }
 
-    pub e6-head : (sid to : List ℕ) → sid ≡ window p 24 16 → to ≡ window p 48 16 → e6Head e (h .trafficClass) sid to n ≡ e6Plan e p .head
+    pub e6-head : (sid to inner : List ℕ) → sid ≡ window p 24 16 → to ≡ window p 48 16 → inner ≡ drop (h .upperAt) p
+        → e6HeadOf e (h .trafficClass) sid to inner ≡ e6Plan e p .head
     unfolding e6Plan header segment
-    e6-head sid to hs ht i = e6Head e (s .view i .trafficClass) (hs i) (ht i) (size-here i)
+    e6-head sid to inner hs ht hi =
+        let here : inner ≡ drop (header p .upperAt) p = hi ∙ ap (λ (k : ℕ). drop k p) upper-here in
+        let size : length inner ≡ length p - header p .upperAt = ap length here ∙ length-drop (header p .upperAt) p in
+        λ i. e6Head e (s .view i .trafficClass) (hs i) (ht i) (size i) (e6Checksum e (ht i) (argsAt (hs i) (Entry.start e)) (here i))
 
     -- E4
     pub e4-judged : (v : Verdict) → v ≡ verdict (farRows false e h ++ lengthRow (44 + n) ∷ []) → Judged (e4Plan e p) p (h .upperAt)
@@ -102,9 +106,9 @@ module _ (p : List ℕ) (h : Header) (s : WellFormed p h) (n : ℕ) (hn : n ≡ 
 
 -- THE LENGTHS OF THEIR HEADS
 
-pub e6-size : (e : List ℕ) (class : ℕ) (sid to : List ℕ) (size : ℕ) → length to ≡ 16 → length (e6Head e class sid to size) ≡ 64
+pub e6-size : (e : List ℕ) (class : ℕ) (sid to inner : List ℕ) → length to ≡ 16 → length (e6HeadOf e class sid to inner) ≡ 64
 unfolding e6Head argsAt
-e6-size e class sid to size ht = simp length-append (omega (arith, window-length e 32 16, window-length sid (Entry.start e / 8 + 1) 4))
+e6-size e class sid to inner ht = simp length-append (omega (arith, window-length e 32 16, window-length sid (Entry.start e / 8 + 1) 4))
 
 pub e4-size : (e : List ℕ) (class : ℕ) (sid from : List ℕ) (size : ℕ) → length (e4Head e class sid from size) ≡ 44
 unfolding e4Head argsAt

@@ -1,11 +1,14 @@
--- What E6 and E4 ask: the rows that they share, and of their entry and packet.
+-- What E6 and E4 ask: the rows that they share, and of their entry and packet; and the head that E6 writes.
 use mathlib.Core.Path.{_≡_}
 use mathlib.Core.Bool.{Bool, cond, not}
 use mathlib.Core.List.{List, [], _∷_}
 use Prim.Native.Nat.{ℕ, _≤_, _<_}
 use lib.ListN.{length}
 use Rattle.rules.specs.Entry as Entry
+use Rattle.rules.specs.Args.{argsAt}
 use Rattle.rules.specs.Session.{accepts}
+use Rattle.rules.specs.E6.{e6Checksum}
+use Rattle.rules.specs.Plan.{e6Head}
 use Rattle.rules.specs.Header.{hasSrh, badChain, beyondHeld, segmentsRemain, WellFormed}
 use Rattle.rules.specs.Answer.{Row, row, segmentsLeftRow, upperLayerRow, differs}
 use Rattle.rules.specs.declared.Header.{Header}
@@ -37,3 +40,7 @@ pub record PutFar (e : List ℕ) (octets lengthField room : ℕ) : Type 0 where
   pub direction : Entry.direction e < 2
   pub fits : lengthField < 65536
   pub spacious : octets ≤ room
+
+-- the head of E6 for an inner packet, with its checksum
+abbrev pub e6HeadOf : (e : List ℕ) (class : ℕ) (sid to inner : List ℕ) → List ℕ
+e6HeadOf e class sid to inner = e6Head e class sid to (length inner) (e6Checksum e to (argsAt sid (Entry.start e)) inner)

@@ -16,10 +16,10 @@ ghost use Rattle.rules.specs.Session.{accepts};
 ghost use Rattle.rules.specs.Answer.{any, differs, verdict, lengthRow, settle};
 ghost use Rattle.rules.specs.E6.{atE6};
 ghost use Rattle.rules.specs.E4.{atE4};
-ghost use Rattle.rules.specs.Plan.{e6Head, e4Head};
+ghost use Rattle.rules.specs.Plan.{e4Head};
 ghost use Rattle.copying.specs.Run.{Run};
 ghost use Rattle.answer.specs.Answered.{Answered};
-ghost use Rattle.far.specs.FarRows.{chainTests, leftTests, farRows, FarAsked, PutFar};
+ghost use Rattle.far.specs.FarRows.{chainTests, leftTests, farRows, FarAsked, PutFar, e6HeadOf};
 
 // The next headers that an entry accepts, by PDU session type (TS 24.501).
 fn accepts_next(session: u8, next: u8) -> bool
@@ -100,16 +100,21 @@ fn judge(e: &[u8], h: rules::Header, e6: bool, field: usize) -> Verdict
     Verdict::Pass
 }
 
-// The head of E6, 64 octets: from the entry, the arriving SID and SRH[0].
-fn put_e6(e: &[u8], class: u8, sid: [u8; 16], to: [u8; 16], size: usize, out: &mut [u8])
-    requires { ⌜ PutFar (now e) 64 (24 + size) (length (now out)) ⌝ }
-    ensures { λ _. ⌜ Run (now (out .entry)) 0 64 (e6Head (now (e .entry)) class sid to size) (now (out .exit)) ⌝ }
+// The head of E6, 64 octets: from the entry, the arriving SID and SRH[0]. It is made with the checksum 0, from which and the inner packet
+// the checksum is computed, and then with that.
+fn put_e6(e: &[u8], class: u8, sid: [u8; 16], to: [u8; 16], inner: &[u8], out: &mut [u8])
+    requires { ⌜ PutFar (now e) 64 (24 + length (now inner)) (length (now out)) ⌝ }
+    ensures { λ _. ⌜ Run (now (out .entry)) 0 64 (e6HeadOf (now (e .entry)) class sid to (now (inner .entry))) (now (out .exit)) ⌝ }
 {
     let args = args::Args::from_sid(sid, e[entry::START]);
     let source = octets::window16(e, entry::SOURCE);
+    let size = inner.len();
     let payload = (24 + size) as u16;
     let hops = e[entry::HOP_LIMIT];
+    let direction = e[entry::DIRECTION];
     let port = octets::join16(e[entry::SOURCE_PORT], e[entry::SOURCE_PORT_LOW]);
+    let bare = gtpu::head_of(port, direction, 0, args, size);
+    let sum = udp::checksum(source, to, bare, inner);
     ip::put_ipv6(
         out,
         class,
@@ -119,10 +124,11 @@ fn put_e6(e: &[u8], class: u8, sid: [u8; 16], to: [u8; 16], size: usize, out: &m
         source,
         to,
     );
-    gtpu::put_datagram(out, 40, port, e[entry::DIRECTION], args, size);
+    let head = gtpu::head_of(port, direction, sum, args, size);
+    copying::copy_to(out, 40, &head);
 }
 
-// The head of E4, 44 octets: addresses and Args stand in the SID and in the source that arrived.
+// The head of E4, 44 octets: addresses and Args stand in the SID and in the source that arrived; the UDP checksum is 0.
 fn put_e4(e: &[u8], class: u8, sid: [u8; 16], from: [u8; 16], size: usize, out: &mut [u8])
     requires { ⌜ PutFar (now e) 44 (44 + size) (length (now out)) × (Entry.p (now e) ≤ 7) ⌝ }
     ensures { λ _. ⌜ Run (now (out .entry)) 0 44 (e4Head (now (e .entry)) class sid from size) (now (out .exit)) ⌝ }
@@ -134,7 +140,8 @@ fn put_e4(e: &[u8], class: u8, sid: [u8; 16], from: [u8; 16], size: usize, out: 
     let total = (44 + size) as u16;
     let port = octets::join16(e[entry::SOURCE_PORT], e[entry::SOURCE_PORT_LOW]);
     ip::put_ipv4(out, class, total, e[entry::HOP_LIMIT], source, destination);
-    gtpu::put_datagram(out, 20, port, e[entry::DIRECTION], args, size);
+    let head = gtpu::head_of(port, e[entry::DIRECTION], 0, args, size);
+    copying::copy_to(out, 20, &head);
 }
 
 // The packet at an E6 entry.
@@ -153,7 +160,7 @@ pub fn at_e6(e: &[u8], h: rules::Header, packet: &[u8], out: &mut [u8]) -> Answe
             let to = octets::window16(packet, 48);
             let a = answer::send(64, packet, at, out);
             if a.number == 0 {
-                put_e6(e, h.trafficClass, sid, to, size, out);
+                put_e6(e, h.trafficClass, sid, to, &packet[at..], out);
             }
             a
         }

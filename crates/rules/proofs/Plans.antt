@@ -67,7 +67,7 @@ ipv4-before tos total ttl s d r =
     let sum = checksum (ipv4Front tos total ttl (put16 0 (s ++ d))) in
     ap (λ (l : List ℕ). ipv4Front tos total ttl (put16 sum l)) (regroup s d r)
 
-datagram-whole : (port direction k : ℕ) (x : Args) (inner : List ℕ)
+pub datagram-whole : (port direction k : ℕ) (x : Args) (inner : List ℕ)
     → datagramBefore port direction k x (length inner) [] ++ inner ≡ datagramOctets port direction k x inner
 datagram-whole port direction k x inner = rw append-assoc
 
