@@ -12,7 +12,7 @@ const SR_UPPER_LAYER_HEADER_ERROR: u8 = 4;
 const SEGMENTS_LEFT_OFFSET: u16 = 43;
 
 /// The answer numbers in words, those of `kawsarpa.h`.
-const NAMES: [&str; 18] = [
+const NAMES: [&str; 19] = [
     "sent",
     "table not sound",
     "malformed packet",
@@ -31,6 +31,7 @@ const NAMES: [&str; 18] = [
     "too long",
     "no room",
     "bad Echo Request",
+    "bad UDP checksum",
 ];
 
 /// One answer: number, ICMP type, code and pointer, length.
@@ -110,6 +111,8 @@ pub enum Refusal {
     NotGtpu,
     /// 9: UDP length.
     Udp,
+    /// 18: UDP checksum over IPv6 wrong, or 0 where not allowed; directly after 9.
+    UdpChecksum,
     /// 10: GTP-U header.
     GtpuHeader,
     /// 17: Echo Request without S, or with a TEID other than 0; in the place of 11 for that type.
@@ -148,6 +151,7 @@ impl Refusal {
             Refusal::TooLong => 15,
             Refusal::NoRoom => 16,
             Refusal::EchoRequest => 17,
+            Refusal::UdpChecksum => 18,
         };
         let (icmp_type, icmp_code, icmp_pointer) = match self {
             Refusal::HopLimit => (TIME_EXCEEDED, 0, 0),
@@ -196,6 +200,10 @@ mod tests {
             "17 (bad Echo Request)"
         );
         assert_eq!(
+            Refusal::UdpChecksum.answer().to_string(),
+            "18 (bad UDP checksum)"
+        );
+        assert_eq!(
             Refusal::HopLimit.answer().to_string(),
             "6 (hop limit exceeded), ICMP 3 0 0"
         );
@@ -217,5 +225,6 @@ mod tests {
         assert_eq!(Refusal::NotGtpu.answer().pack(), 8);
         assert_eq!(Refusal::NoRoom.answer().pack(), 16);
         assert_eq!(Refusal::EchoRequest.answer().pack(), 17);
+        assert_eq!(Refusal::UdpChecksum.answer().pack(), 18);
     }
 }

@@ -1,13 +1,15 @@
-//! Which answer numbers came out at which kind, and what Echo Requests met.
+//! Which answer numbers came out at which kind, what Echo Requests met, and UDP checksums.
 
+pub mod checksum;
 pub mod echo;
 
-use crate::generate::{self, Kind};
+use crate::answer::Answer;
+use crate::generate::{self, Case, Kind};
 use crate::tally::Tally;
 use std::fmt;
 use std::ops::AddAssign;
 
-pub const NUMBERS: usize = 18;
+pub const NUMBERS: usize = 19;
 
 #[derive(Clone, Debug, Default, PartialEq, Eq)]
 pub struct Coverage {
@@ -112,18 +114,78 @@ impl fmt::Display for Finding {
     }
 }
 
+/// All that cases met.
+pub struct Met {
+    pub numbers: Coverage,
+    echo: Tally,
+    checksum: Tally,
+}
+
+impl Met {
+    pub const TABLES: u64 = 3;
+
+    pub fn new() -> Self {
+        Met {
+            numbers: Coverage::default(),
+            echo: Tally::new(&echo::SHAPE),
+            checksum: Tally::new(&checksum::SHAPE),
+        }
+    }
+
+    /// Counts a case by what was answered.
+    pub fn add(&mut self, case: &Case, answer: Answer) {
+        self.numbers.add(case.kind, answer.number);
+        echo::add(&mut self.echo, case, answer);
+        checksum::add(&mut self.checksum, case, answer);
+    }
+
+    /// An error that names every finding of a table.
+    pub fn judge(&self) -> Result<(), String> {
+        self.judge_first(Met::TABLES)
+    }
+
+    /// The same of the first tables alone: the numbers, Echo Requests, UDP checksums. Few cases do
+    /// not meet all of the last.
+    pub fn judge_first(&self, tables: u64) -> Result<(), String> {
+        let judged = [
+            self.numbers.judge(),
+            self.echo.judge(),
+            self.checksum.judge(),
+        ];
+        judged.into_iter().take(tables as usize).collect()
+    }
+}
+
+impl Default for Met {
+    fn default() -> Self {
+        Self::new()
+    }
+}
+
+impl AddAssign<&Met> for Met {
+    fn add_assign(&mut self, other: &Met) {
+        self.numbers += &other.numbers;
+        self.echo += &other.echo;
+        self.checksum += &other.checksum;
+    }
+}
+
+impl fmt::Display for Met {
+    fn fmt(&self, f: &mut fmt::Formatter<'_>) -> fmt::Result {
+        write!(f, "{}\n{}\n{}", self.echo, self.checksum, self.numbers)
+    }
+}
+
 /// Generates and checks the first `cases` cases of a seed.
-pub fn collect(seed: u64, cases: u64) -> Result<(Coverage, Tally), String> {
-    let mut coverage = Coverage::default();
-    let mut echo = Tally::new(&echo::SHAPE);
+pub fn collect(seed: u64, cases: u64) -> Result<Met, String> {
+    let mut met = Met::new();
     for index in 0..cases {
         let case = generate::case(seed, index);
         case.check()
             .map_err(|why| format!("seed {seed} index {index}: {why}"))?;
-        coverage.add(case.kind, case.answer.number);
-        echo::add(&mut echo, &case, case.answer);
+        met.add(&case, case.answer);
     }
-    Ok((coverage, echo))
+    Ok(met)
 }
 
 #[cfg(test)]
@@ -144,15 +206,14 @@ mod tests {
         assert_eq!(coverage.findings(), [Finding::Stray(Kind::E6, 15)]);
         assert_eq!(
             Coverage::default().findings().len(),
-            9 + 16 + 16 + 8 + 9 + 15
+            9 + 17 + 17 + 8 + 9 + 15
         );
         assert!(Coverage::default().judge().is_err());
     }
 
     #[test]
     fn no_gap() {
-        let (coverage, echo) = collect(7, 20_000).unwrap();
-        assert_eq!(coverage.judge(), Ok(()), "{coverage}");
-        assert_eq!(echo.judge(), Ok(()), "{echo}");
+        let met = collect(7, 60_000).unwrap();
+        assert_eq!(met.judge(), Ok(()), "{met}");
     }
 }

@@ -7,7 +7,7 @@ use crate::table::{mask4, mask6};
 use std::fmt;
 
 /// How many conditions each kind of record has: header, entry, rule, policy.
-const CONDITIONS: [usize; 4] = [5, 14, 12, 3];
+const CONDITIONS: [usize; 4] = [5, 15, 12, 3];
 const NAMES: [&str; 4] = ["header", "entry", "rule", "policy"];
 
 /// The first that is not met, counted from `from`.
@@ -67,9 +67,11 @@ fn entry(e: &[u8], policies: usize) -> Option<u64> {
             !e4 || e[7] <= 7,
             !e4 || e[8] <= 12,
             !e4 || u32::from(e[1]) <= 8 * u32::from(e[7]),
-            e[9] == 0,
+            d || e[9] == 0,
         ],
     )
+    // 14 is for all entries together.
+    .or((d && e[9] > 1).then_some(15))
 }
 
 fn rule(r: &[u8]) -> Option<u64> {
@@ -203,7 +205,7 @@ pub fn change(rng: &mut Rng, octets: &mut Vec<u8>) {
 #[derive(Clone, Debug, Default, PartialEq, Eq)]
 pub struct Faults {
     sound: u64,
-    told: [[u64; 15]; 4],
+    told: [[u64; 16]; 4],
 }
 
 impl Faults {
@@ -280,7 +282,7 @@ mod tests {
         assert_eq!(fault(&empty[..15]), 0x105);
         assert_eq!(fault(&[1, 0, 255]), 0x102);
         let mut gaps = Faults::default();
-        gaps.add(0x20f);
+        gaps.add(0x210);
         assert!(gaps.judge().is_err());
     }
 }

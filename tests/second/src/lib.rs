@@ -9,14 +9,15 @@
 //! - [`outgoing`]: what is written;
 //! - [`loss`], [`sequence`]: lost sequence numbers, and the readers of those numbers;
 //! - [`answer`]: the answer numbers and the packed answer;
-//! - [`generate`], [`coverage`], [`tally`], [`vectors`], [`worked`], [`trips`],
-//!   [`program`]: cases and checks;
+//! - [`generate`], [`coverage`], [`tally`], [`edges`], [`vectors`], [`worked`],
+//!   [`trips`], [`program`]: cases and checks;
 //! - [`command`]: what the programs share.
 
 pub mod answer;
 pub mod args;
 pub mod command;
 pub mod coverage;
+pub mod edges;
 pub mod fault;
 pub mod generate;
 pub mod gtpu;

@@ -14,8 +14,8 @@ second - the gateway rules a second time, written from the papers and not from t
 
 usage:
   second coverage --seed N --cases M
-      generate M cases, print what Echo Requests met at each kind, and how often each
-      answer number came out there
+      generate M cases, print what Echo Requests met at each kind, and UDP checksums,
+      and how often each answer number came out there
   second vectors --seed N --per-kind K [--max-packet L]
       print K cases for each kind, packets of at most L octets (400 if not given),
       a line each: kind call number icmp_type icmp_code icmp_pointer length room
@@ -44,7 +44,7 @@ usage:
   second check
       read lines of any of these forms from standard input and run them here
   second worked
-      run the worked packets of docs/RULES.md and of orders 1 and 13
+      run the worked packets of docs/RULES.md and of orders 1, 2 and 13
   second program-input --seed N --per-kind K [--max-worked L]
   second program-output --seed N --per-kind K [--max-worked L]
       what the library's program `worked` reads, and what it should print: the
@@ -74,10 +74,9 @@ fn run(words: &[String], out: &mut dyn Write) -> Result<(), Failure> {
         "coverage" => {
             let options = Options::parse(rest, &["--seed", "--cases"])?;
             let (seed, cases) = (options.get("--seed")?, options.get("--cases")?);
-            let (coverage, echo) = coverage::collect(seed, cases).map_err(Failure::Check)?;
-            writeln!(out, "{echo}\n{coverage}")?;
-            coverage.judge().map_err(Failure::Check)?;
-            echo.judge().map_err(Failure::Check)?;
+            let met = coverage::collect(seed, cases).map_err(Failure::Check)?;
+            writeln!(out, "{met}")?;
+            met.judge().map_err(Failure::Check)?;
             writeln!(out, "seed {seed}: {cases} cases, no gap")?;
         }
         "vectors" => {

@@ -15,7 +15,7 @@ mod routes;
 pub mod trips;
 
 use crate::table::{
-    mask4, mask6, Behaviour, Direction, Entry, Ipv6Prefix, Policy, Rule, Session, Table,
+    mask4, mask6, Behaviour, Direction, Entry, Inbound, Ipv6Prefix, Policy, Rule, Session, Table,
 };
 
 /// Args, and the parts of it that can vary. U, between R and TEID, is sent 0.
@@ -143,7 +143,10 @@ impl Pattern {
 pub fn match_ipv6(near: &[u8], index: u64, far: &[u8]) -> Result<(), Mismatch> {
     let (near, far) = sound(near, far)?;
     let entry = record(&near.entries, index)?;
-    let Behaviour::Di { session, policy } = entry.behaviour else {
+    let Behaviour::Di(Inbound {
+        session, policy, ..
+    }) = entry.behaviour
+    else {
         return Err(Condition::Di.fails());
     };
     let policy = &near.policies[policy];
@@ -272,10 +275,15 @@ mod tests {
     fn near6(session: Session, sids: usize) -> Vec<u8> {
         let mut sids = vec![0; sids - 1];
         sids.push(LAST);
+        let inbound = Inbound {
+            session,
+            policy: 0,
+            zero_checksum: false,
+        };
         Table {
             entries: vec![
                 entry(0, 0, Behaviour::End),
-                entry(1, 128, Behaviour::Di { session, policy: 0 }),
+                entry(1, 128, Behaviour::Di(inbound)),
             ],
             policies: vec![Policy {
                 args_start: 8,

@@ -6,7 +6,7 @@ use crate::gtpu::{self, Container};
 use crate::ipv4;
 use crate::ipv6::{self, next_header};
 use crate::table::Direction;
-use crate::udp;
+use crate::udp::{self, Addresses};
 
 const DONT_FRAGMENT: u16 = 0x4000;
 const LENGTH_FIELD_MAX: usize = 65_535;
@@ -150,7 +150,7 @@ fn write_ipv6(
     octets.extend(addresses.1.to_be_bytes());
 }
 
-/// Checksum 0.
+/// Checksum 0: what over IPv4 is sent, and over IPv6 is written over.
 fn write_udp(octets: &mut Vec<u8>, ports: (u16, u16), length: usize) {
     octets.extend(ports.0.to_be_bytes());
     octets.extend(ports.1.to_be_bytes());
@@ -262,16 +262,24 @@ impl Tunnel<'_> {
 
 impl Gtp6Packet<'_> {
     fn write(&self, octets: &mut Vec<u8>) {
-        let addresses = (self.source, self.destination);
+        let (source, destination) = (self.source, self.destination);
         write_ipv6(
             octets,
             self.traffic_class,
             self.datagram.length(),
             next_header::UDP,
             self.hop_limit,
-            addresses,
+            (source, destination),
         );
+        let start = octets.len();
         self.datagram.write(octets);
+        let addresses = Addresses {
+            source,
+            destination,
+        };
+        let datagram = &mut octets[start..];
+        let checksum = udp::checksum(addresses, datagram).to_be_bytes();
+        datagram[udp::CHECKSUM..udp::HEADER_LENGTH].copy_from_slice(&checksum);
     }
 }
 

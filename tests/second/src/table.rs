@@ -38,6 +38,7 @@ pub enum Unsound {
     P,
     Q,
     Reserved,
+    ZeroChecksum,
     Waypoints,
     Sids,
 }
@@ -222,15 +223,24 @@ impl Ipv4Places {
     }
 }
 
+/// What D and Di use.
+#[derive(Clone, Copy, Debug, PartialEq, Eq)]
+pub struct Inbound {
+    pub session: Session,
+    pub policy: usize,
+    /// Whether a UDP checksum of 0 passes (order 2).
+    pub zero_checksum: bool,
+}
+
 /// What an entry does, with the fields that its kind uses.
 #[derive(Clone, Copy, Debug, PartialEq, Eq)]
 pub enum Behaviour {
     /// End (RFC 8986, 4.1), the waypoint.
     End,
     /// End.M.GTP6.D.
-    D { session: Session, policy: usize },
+    D(Inbound),
     /// End.M.GTP6.D.Di.
-    Di { session: Session, policy: usize },
+    Di(Inbound),
     /// End.M.GTP6.E.
     E6 {
         session: Session,
@@ -250,8 +260,8 @@ impl Behaviour {
     pub fn number(&self) -> u8 {
         match self {
             Behaviour::End => 1,
-            Behaviour::D { .. } => 69,
-            Behaviour::Di { .. } => 70,
+            Behaviour::D(_) => 69,
+            Behaviour::Di(_) => 70,
             Behaviour::E6 { .. } => 71,
             Behaviour::E4 { .. } => 72,
         }
@@ -315,6 +325,15 @@ fn reserved(octet: u8) -> Result<(), Unsound> {
     Ok(())
 }
 
+/// A mark: 0 or 1.
+fn zero_checksum(octet: u8) -> Result<bool, Unsound> {
+    match octet {
+        0 => Ok(false),
+        1 => Ok(true),
+        _ => Err(Unsound::ZeroChecksum),
+    }
+}
+
 fn addresses(octets: &[u8]) -> Vec<u128> {
     let mut reader = Reader::new(octets);
     std::iter::from_fn(|| reader.u128()).collect()
@@ -328,7 +347,6 @@ impl Entry {
         };
         let prefix = Ipv6Prefix::decode(prefix_bits, record[1])?;
         let hop_limit = hop_limit(record[2])?;
-        reserved(record[9])?;
         let session = || Session::decode(record[3], record[4]);
         let policy = || {
             let index = usize::from(record[5]);
@@ -345,17 +363,18 @@ impl Entry {
                 Err(Unsound::PrefixLength)
             }
         };
+        let inbound = || {
+            Ok(Inbound {
+                session: session()?,
+                policy: policy()?,
+                zero_checksum: zero_checksum(record[9])?,
+            })
+        };
         let source_port = u16::from_be_bytes([record[10], record[11]]);
         let behaviour = match record[0] {
             1 => Behaviour::End,
-            69 => Behaviour::D {
-                session: session()?,
-                policy: policy()?,
-            },
-            70 => Behaviour::Di {
-                session: session()?,
-                policy: policy()?,
-            },
+            69 => Behaviour::D(inbound()?),
+            70 => Behaviour::Di(inbound()?),
             71 => {
                 let args_start = args_start(record[6])?;
                 within(args_start)?;
@@ -376,6 +395,9 @@ impl Entry {
             }
             _ => return Err(Unsound::Behaviour),
         };
+        if !matches!(behaviour, Behaviour::D(_) | Behaviour::Di(_)) {
+            reserved(record[9])?;
+        }
         Ok(Entry {
             prefix,
             hop_limit,
@@ -391,9 +413,10 @@ impl Entry {
         record[2] = self.hop_limit;
         let session = match self.behaviour {
             Behaviour::End => None,
-            Behaviour::D { session, policy } | Behaviour::Di { session, policy } => {
-                record[5] = policy as u8;
-                Some(session)
+            Behaviour::D(inbound) | Behaviour::Di(inbound) => {
+                record[5] = inbound.policy as u8;
+                record[9] = inbound.zero_checksum.into();
+                Some(inbound.session)
             }
             Behaviour::E6 {
                 session,
@@ -624,10 +647,11 @@ mod tests {
                 entry(
                     base,
                     128,
-                    Behaviour::D {
+                    Behaviour::D(Inbound {
                         session: SESSION,
                         policy: 0,
-                    },
+                        zero_checksum: true,
+                    }),
                 ),
                 entry(0, 0, Behaviour::End),
             ],
@@ -714,6 +738,11 @@ mod tests {
             (e4 + 8, 13, Unsound::Q),
             (e6 + 9, 1, Unsound::Reserved),
             (end + 9, 1, Unsound::Reserved),
+            (e4 + 9, 1, Unsound::Reserved),
+            (d + 9, 2, Unsound::ZeroChecksum),
+            (d + 9, 3, Unsound::ZeroChecksum),
+            (d + 9, 128, Unsound::ZeroChecksum),
+            (d + 9, 255, Unsound::ZeroChecksum),
             (e6 + 31, 1, Unsound::PrefixBits),
             (rule, 33, Unsound::PrefixLength),
             (rule + 1, 0, Unsound::HopLimit),

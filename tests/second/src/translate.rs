@@ -1,6 +1,6 @@
 //! The two calls. The stages stand in the order in which the rows are tested: by
-//! the size of the number, but 17 in the place of 11. The first refusal met is the
-//! answer.
+//! the size of the number, but 18 behind 9, and 17 in the place of 11. The first
+//! refusal met is the answer.
 
 use crate::answer::{Answer, Refusal};
 use crate::args::ArgsMobSession;
@@ -11,8 +11,8 @@ use crate::outgoing::{
     Advanced, Datagram, EchoResponse, Gtp4Packet, Gtp6Packet, Outgoing, RoutingState, SrPacket,
     Tunnel,
 };
-use crate::table::{Behaviour, Entry, Ipv4Places, Policy, Rule, Session, Table};
-use crate::udp;
+use crate::table::{Behaviour, Entry, Inbound, Ipv4Places, Policy, Rule, Session, Table};
+use crate::udp::{self, Addresses, GtpuDatagram};
 
 /// The IPv6 call: waypoint, D, Di, E6, E4. Packed answer.
 pub fn translate_ipv6(packet: &[u8], table: &[u8], out: &mut [u8]) -> u64 {
@@ -52,8 +52,8 @@ fn ipv6(octets: &[u8], table: &[u8], room: usize) -> Result<Vec<u8>, Refusal> {
     };
     let outgoing = match entry.behaviour {
         Behaviour::End => Outgoing::Advanced(arriving.end()?),
-        Behaviour::D { session, policy } => arriving.d(session, &table.policies[policy])?,
-        Behaviour::Di { session, policy } => arriving.di(session, &table.policies[policy])?,
+        Behaviour::D(tunnel) => arriving.d(tunnel, &table.policies[tunnel.policy])?,
+        Behaviour::Di(tunnel) => arriving.di(tunnel, &table.policies[tunnel.policy])?,
         Behaviour::E6 {
             session,
             args_start,
@@ -89,14 +89,8 @@ enum Decapsulated<'a> {
     Echo(EchoResponse),
 }
 
-/// Rows 8 to 14 and 17.
-fn decapsulate(
-    protocol: u8,
-    upper: &[u8],
-    session: Session,
-    stray: Refusal,
-) -> Result<Decapsulated<'_>, Refusal> {
-    let datagram = udp::to_gtpu(protocol, upper, stray)?;
+/// Rows 10 to 14 and 17.
+fn decapsulate(datagram: GtpuDatagram<'_>, session: Session) -> Result<Decapsulated<'_>, Refusal> {
     Ok(match gtpu::parse(datagram.payload, session.direction)? {
         gtpu::Message::GPdu(gtpu::GPdu { args, inner }) => Decapsulated::User(UserPacket {
             args,
@@ -136,16 +130,16 @@ impl<'a> Arriving<'a, '_> {
     }
 
     /// End.M.GTP6.D (RFC 9433, 6.3).
-    fn d(&self, session: Session, policy: &Policy) -> Result<Outgoing<'a>, Refusal> {
-        Ok(match self.decapsulate(session)? {
+    fn d(&self, tunnel: Inbound, policy: &Policy) -> Result<Outgoing<'a>, Refusal> {
+        Ok(match self.decapsulate(tunnel)? {
             Decapsulated::User(user) => self.sr_packet(policy_segments(policy, user.args), user),
             Decapsulated::Echo(response) => self.reply(response),
         })
     }
 
     /// End.M.GTP6.D.Di (RFC 9433, 5.4 and 6.4): the arriving destination is SRH[0].
-    fn di(&self, session: Session, policy: &Policy) -> Result<Outgoing<'a>, Refusal> {
-        Ok(match self.decapsulate(session)? {
+    fn di(&self, tunnel: Inbound, policy: &Policy) -> Result<Outgoing<'a>, Refusal> {
+        Ok(match self.decapsulate(tunnel)? {
             Decapsulated::User(user) => {
                 let mut segments = policy_segments(policy, user.args);
                 segments.push(self.packet.destination);
@@ -196,14 +190,17 @@ impl<'a> Arriving<'a, '_> {
         })
     }
 
-    fn decapsulate(&self, session: Session) -> Result<Decapsulated<'a>, Refusal> {
+    /// Rows 7 to 14, 17 and 18. With SL 0 the destination of the IPv6 header is the final one.
+    fn decapsulate(&self, tunnel: Inbound) -> Result<Decapsulated<'a>, Refusal> {
         self.chain.require_segments_left_0()?;
-        decapsulate(
-            self.chain.protocol,
-            self.chain.upper,
-            session,
-            self.chain.upper_layer_error(),
-        )
+        let stray = self.chain.upper_layer_error();
+        let datagram = udp::to_gtpu(self.chain.protocol, self.chain.upper, stray)?;
+        let addresses = Addresses {
+            source: self.packet.source,
+            destination: self.packet.destination,
+        };
+        datagram.verify(addresses, tunnel.zero_checksum)?;
+        decapsulate(datagram, tunnel.session)
     }
 
     fn sr_packet(&self, segments: Vec<u128>, user: UserPacket<'a>) -> Outgoing<'a> {
@@ -281,13 +278,8 @@ fn policy_segments(policy: &Policy, args: ArgsMobSession) -> Vec<u128> {
 
 /// H.M.GTP4.D (RFC 9433, 6.7).
 fn d4<'a>(packet: &Ipv4Packet<'a>, rule: &Rule) -> Result<Outgoing<'a>, Refusal> {
-    let arrived = decapsulate(
-        packet.protocol,
-        packet.payload,
-        rule.session,
-        Refusal::NotGtpu,
-    )?;
-    Ok(match arrived {
+    let datagram = udp::to_gtpu(packet.protocol, packet.payload, Refusal::NotGtpu)?;
+    Ok(match decapsulate(datagram, rule.session)? {
         Decapsulated::User(user) => Outgoing::Sr(d4_sr_packet(packet, rule, user)),
         Decapsulated::Echo(response) => Outgoing::Gtp4(d4_reply(packet, rule, response)),
     })

@@ -8,11 +8,11 @@ pub mod fixed;
 
 use crate::answer::Answer;
 use crate::generate::packets::{self, Draft, IpDraft, Ipv4Draft, Ipv6Draft, SrhDraft, UpperDraft};
-use crate::generate::{tables, translate, Call};
+use crate::generate::{checksum, tables, translate, Call};
 use crate::rng::Rng;
 use crate::table::{
-    mask6, Behaviour, Direction, Entry, Ipv6Prefix, Policy, Session, SessionType, Table, MAX_SIDS,
-    MAX_WAYPOINTS,
+    mask6, Behaviour, Direction, Entry, Inbound, Ipv6Prefix, Policy, Session, SessionType, Table,
+    MAX_SIDS, MAX_WAYPOINTS,
 };
 use std::fmt;
 use std::ops::Range;
@@ -274,7 +274,7 @@ impl Values {
         ]
     }
 
-    /// UDP and GTP-U from these values.
+    /// UDP and GTP-U from these values, checksum 0.
     fn tunnelled(&self, source_port: u16, direction: Direction) -> Vec<u8> {
         let inner_length = self.inner.len();
         let mut octets = source_port.to_be_bytes().to_vec();
@@ -307,7 +307,10 @@ impl Values {
         octets.extend([17, far.hop_limit]);
         octets.extend(far.source.to_be_bytes());
         octets.extend(destination.to_be_bytes());
-        octets.extend(self.tunnelled_by(far));
+        let mut datagram = self.tunnelled_by(far);
+        let checksum = checksum::right(&octets[8..], &datagram);
+        datagram[6..8].copy_from_slice(&checksum.to_be_bytes());
+        octets.extend(datagram);
         octets
     }
 
@@ -385,7 +388,13 @@ fn trip6(rng: &mut Rng) -> Trip {
     };
     let most = (65_535 - srh_length).min(65_575 - draft.overhead());
     *draft.inner() = inner(rng, session, most);
-    let packet = draft.assemble().octets;
+    let mut assembled = draft.assemble();
+    // What comes out has a checksum, also where none went in.
+    let zero_checksum = rng.chance(40);
+    if zero_checksum && rng.chance(50) {
+        assembled.set16(assembled.layout.upper + 6, 0);
+    }
+    let packet = assembled.octets;
     let (IpDraft::V6(header), UpperDraft::Gtpu(gtpu)) = (&draft.ip, &draft.upper) else {
         unreachable!("an IPv6 draft around GTP-U");
     };
@@ -399,10 +408,11 @@ fn trip6(rng: &mut Rng) -> Trip {
         prefix: Ipv6Prefix::of(destination, rng.between(0, 128) as u8),
         hop_limit,
         source: rng.u128(),
-        behaviour: Behaviour::Di {
+        behaviour: Behaviour::Di(Inbound {
             session,
             policy: place,
-        },
+            zero_checksum,
+        }),
     };
     let sr_length = 40 + srh_length + values.inner.len();
     let near_table = table_with(rng, destination, near, policies);

@@ -7,8 +7,8 @@ use crate::generate::Call;
 use crate::gtpu;
 use crate::sequence::worked::readings;
 use crate::table::{
-    Behaviour, Direction, Entry, Ipv4Places, Ipv4Prefix, Ipv6Prefix, Policy, Rule, Session,
-    SessionType, Table,
+    Behaviour, Direction, Entry, Inbound, Ipv4Places, Ipv4Prefix, Ipv6Prefix, Policy, Rule,
+    Session, SessionType, Table,
 };
 
 /// A worked packet's words and whether it holds here.
@@ -69,12 +69,20 @@ fn table_of(behaviour: fn(Session, usize) -> Behaviour, sids: usize) -> Vec<u8> 
     table.encode()
 }
 
+fn inbound(session: Session, policy: usize) -> Inbound {
+    Inbound {
+        session,
+        policy,
+        zero_checksum: false,
+    }
+}
+
 fn d(session: Session, policy: usize) -> Behaviour {
-    Behaviour::D { session, policy }
+    Behaviour::D(inbound(session, policy))
 }
 
 fn di(session: Session, policy: usize) -> Behaviour {
-    Behaviour::Di { session, policy }
+    Behaviour::Di(inbound(session, policy))
 }
 
 fn e6_table() -> Vec<u8> {

@@ -5,8 +5,8 @@ use second::args::ArgsMobSession;
 use second::matching::pairs::{pair, Ask, Pair};
 use second::rng::Rng;
 use second::table::{
-    mask4, mask6, Behaviour, Direction, Entry, Ipv4Places, Ipv4Prefix, Ipv6Prefix, Policy, Rule,
-    Session, SessionType, Table,
+    mask4, mask6, Behaviour, Direction, Entry, Inbound, Ipv4Places, Ipv4Prefix, Ipv6Prefix, Policy,
+    Rule, Session, SessionType, Table,
 };
 
 const ENTRY: u64 = 2 << 8;
@@ -125,7 +125,10 @@ fn teids(far: &Table, start: u8) -> Vec<u32> {
 
 fn ipv6(near: &Table, index: usize, far: &Table) -> u64 {
     let entry = &near.entries[index];
-    let Behaviour::Di { session, policy } = entry.behaviour else {
+    let Behaviour::Di(Inbound {
+        session, policy, ..
+    }) = entry.behaviour
+    else {
         return 4;
     };
     let Policy { args_start, sids } = &near.policies[policy];
@@ -317,12 +320,17 @@ fn all_of_a_few_bits() {
             entries,
             ..Table::default()
         };
+        let inbound = Inbound {
+            session,
+            policy: 0,
+            zero_checksum: false,
+        };
         let near = Table {
             entries: vec![Entry {
                 prefix: Ipv6Prefix::of(0, 0),
                 hop_limit: 1,
                 source: 0,
-                behaviour: Behaviour::Di { session, policy: 0 },
+                behaviour: Behaviour::Di(inbound),
             }],
             rules: vec![Rule {
                 prefix: Ipv4Prefix::of(0x0a0b_0c00, 28),

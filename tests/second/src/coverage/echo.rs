@@ -1,7 +1,8 @@
 //! What cases with an Echo Request met, by the kind.
 
 use crate::answer::Answer;
-use crate::generate::{Call, Case, Kind};
+use crate::edges::{self, edge, Edge};
+use crate::generate::{checksum, Call, Case};
 use crate::gtpu::{flag, Header, ECHO_REQUEST, ECHO_RESPONSE, G_PDU, PDU_SESSION_CONTAINER};
 use crate::ipv4::Ipv4Packet;
 use crate::ipv6::{next_header, HeaderChain, Ipv6Packet};
@@ -10,42 +11,18 @@ use crate::udp::GTPU_PORT;
 
 pub static SHAPE: Shape = Shape {
     corner: "Echo Request",
-    lines: &names(),
+    lines: &edges::names::<_, { EDGES.len() }>(EDGES),
     columns: &["waypoint", "D", "Di", "E6", "E4", "D4"],
-    can_occur: |line, column| {
-        let edge = EDGES.iter().find(|edge| edge.name == line);
-        edge.is_some_and(|edge| edge.kinds.iter().any(|kind| kind.name() == column))
-    },
+    can_occur: |line, column| edges::can_occur(EDGES, line, column),
 };
 
-/// What a case can meet, and at which kinds.
-struct Edge {
-    name: &'static str,
-    kinds: &'static [Kind],
-    met: fn(&View) -> bool,
-}
-
-const fn edge(name: &'static str, kinds: &'static [Kind], met: fn(&View) -> bool) -> Edge {
-    Edge { name, kinds, met }
-}
-
-const fn names() -> [&'static str; EDGES.len()] {
-    let mut names = [""; EDGES.len()];
-    let mut at = 0;
-    while at < names.len() {
-        names[at] = EDGES[at].name;
-        at += 1;
-    }
-    names
-}
-
 /// Those that answer, those of them over IPv6, and the others.
-const ANSWER: &[Kind] = &[Kind::D, Kind::Di, Kind::D4];
-const SIX: &[Kind] = &[Kind::D, Kind::Di];
-const OTHERS: &[Kind] = &[Kind::Waypoint, Kind::E6, Kind::E4];
-const WAYPOINT: &[Kind] = &[Kind::Waypoint];
+const ANSWER: &[&str] = &["D", "Di", "D4"];
+const SIX: &[&str] = &["D", "Di"];
+const OTHERS: &[&str] = &["waypoint", "E6", "E4"];
+const WAYPOINT: &[&str] = &["waypoint"];
 
-const EDGES: &[Edge] = &[
+const EDGES: &[Edge<fn(&View) -> bool>] = &[
     edge("answered", ANSWER, |v| v.is(0)),
     edge("answered, E set", ANSWER, |v| v.is(0) && v.has(flag::E)),
     edge("answered, PN set", ANSWER, |v| v.is(0) && v.has(flag::PN)),
@@ -259,6 +236,11 @@ impl<'a> View<'a> {
             message[0] = flag::VERSION_1 | flag::PT | flag::E;
             message[1] = G_PDU;
             message[11..].copy_from_slice(&[PDU_SESSION_CONTAINER, 1, pdu_type, 0, 0, 0x40]);
+            if self.case.call == Call::Ipv6 {
+                let (before, datagram) = packet.split_at_mut(start - 8);
+                let right = checksum::right(&before[8..40], datagram);
+                datagram[6..8].copy_from_slice(&right.to_be_bytes());
+            }
             let mut out = [];
             let answer = self.case.call.run(&packet, &self.case.table, &mut out);
             answer.number == 15
@@ -271,8 +253,5 @@ pub fn add(tally: &mut Tally, case: &Case, answer: Answer) {
     let Some(view) = View::of(case, answer) else {
         return;
     };
-    let met = |edge: &&Edge| edge.kinds.contains(&case.kind) && (edge.met)(&view);
-    for edge in EDGES.iter().filter(met) {
-        tally.add(edge.name, case.kind.name(), &[]);
-    }
+    edges::add(tally, EDGES, case.kind.name(), |met| met(&view));
 }

@@ -463,7 +463,7 @@ fn cut(rng: &mut Rng, packet: &mut Assembled) -> Option<&'static str> {
         0 => rng.below(header + 1),
         1 => rng.pick(&[0, 1, header - 1, header, header + 1]),
         2 => layout.srh.unwrap_or(header) + rng.below(25),
-        3 | 4 => layout.upper + rng.below(9),
+        3 | 4 => layout.upper + rng.below(11).min(8),
         5 | 6 => layout.gtpu.unwrap_or(layout.upper) + rng.below(13),
         7 => layout.extensions.unwrap_or(layout.upper) + rng.below(9),
         8 => (layout.inner + rng.below(3)).saturating_sub(1),
@@ -696,7 +696,7 @@ fn entry(rng: &mut Rng, table: &Table, octets: &mut [u8]) -> Option<&'static str
     let entry = &table.entries[index];
     let record = &mut octets[entry_at(index)..];
     let behaviour = &entry.behaviour;
-    let is_d = matches!(behaviour, Behaviour::D { .. } | Behaviour::Di { .. });
+    let is_d = matches!(behaviour, Behaviour::D(_) | Behaviour::Di(_));
     Some(match rng.below(13) {
         0 => {
             record[0] = rng.pick(&[0, 2, 40, 41, 68, 73, 255]);
@@ -783,8 +783,12 @@ fn entry(rng: &mut Rng, table: &Table, octets: &mut [u8]) -> Option<&'static str
             },
             _ => return None,
         },
+        11 | 12 if is_d => {
+            record[9] = first_or_other(rng, &[2, 3, 128, 254, 255]);
+            "zero checksum mark"
+        }
         11 => {
-            record[9] = rng.pick(&[1, 2, 128, 255]);
+            record[9] = first_or_other(rng, &[1, 2, 128, 255]);
             "entry reserved octet"
         }
         _ => return None,

@@ -1,8 +1,10 @@
 //! Cases from a seed: a sound table and a packet for it, or an Echo Request, then
-//! damage to one field or a few, then a room around the result's length.
+//! damage to one field or a few, then the UDP checksum, then a room around the
+//! result's length.
 //!
 //! [`case`] makes one case from a seed and an index and nothing else.
 
+pub mod checksum;
 pub mod damage;
 pub mod echo;
 pub mod packets;
@@ -94,7 +96,7 @@ impl Kind {
     pub fn numbers(self) -> &'static [u8] {
         match self {
             Kind::Waypoint => &[0, 1, 2, 4, 5, 6, 7, 8, 16],
-            Kind::D | Kind::Di => &[0, 1, 2, 4, 5, 7, 8, 9, 10, 11, 12, 13, 14, 15, 16, 17],
+            Kind::D | Kind::Di => &[0, 1, 2, 4, 5, 7, 8, 9, 10, 11, 12, 13, 14, 15, 16, 17, 18],
             Kind::E6 => &[0, 1, 2, 4, 5, 7, 8, 16],
             Kind::E4 => &[0, 1, 2, 4, 5, 7, 8, 15, 16],
             Kind::D4 => &[0, 1, 2, 3, 4, 8, 9, 10, 11, 12, 13, 14, 15, 16, 17],
@@ -104,8 +106,8 @@ impl Kind {
     fn of(behaviour: &Behaviour) -> Kind {
         match behaviour {
             Behaviour::End => Kind::Waypoint,
-            Behaviour::D { .. } => Kind::D,
-            Behaviour::Di { .. } => Kind::Di,
+            Behaviour::D(_) => Kind::D,
+            Behaviour::Di(_) => Kind::Di,
             Behaviour::E6 { .. } => Kind::E6,
             Behaviour::E4 { .. } => Kind::E4,
         }
@@ -285,6 +287,9 @@ fn case_of(rng: &mut Rng, scene: &tables::Scene, percent_filled: usize) -> Case 
         table_octets = octets;
         notes.push(note);
     }
+
+    let finished = checksum::finish(rng, kind, &mut assembled, &table_octets);
+    notes.extend(finished);
 
     let packet = assembled.octets;
     let mut whole = vec![0; LONGEST.min(packet.len() + 200)];

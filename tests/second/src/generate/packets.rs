@@ -1,7 +1,7 @@
 //! Valid packets for a scene, as drafts that can be changed before they are put together.
 
 use super::tables::{Destination, Scene};
-use super::Kind;
+use super::{checksum, Kind};
 use crate::gtpu::{flag, G_PDU, PDU_SESSION_CONTAINER};
 use crate::ipv4;
 use crate::ipv6::next_header;
@@ -9,7 +9,7 @@ use crate::rng::Rng;
 use crate::table::{Behaviour, Session, SessionType};
 use crate::udp::GTPU_PORT;
 
-/// A packet layer by layer; length fields and the IPv4 checksum come with [`Draft::assemble`].
+/// A packet layer by layer; length fields and checksums come with [`Draft::assemble`].
 #[derive(Clone, Debug)]
 pub struct Draft {
     pub ip: IpDraft,
@@ -70,6 +70,7 @@ pub enum UpperDraft {
 pub struct GtpuDraft {
     pub source_port: u16,
     pub destination_port: u16,
+    /// Over IPv4; over IPv6 the right one takes its place.
     pub udp_checksum: u16,
     pub flags: u8,
     pub message_type: u8,
@@ -218,6 +219,7 @@ impl Draft {
         }
         let mut assembled = Assembled { octets, layout };
         assembled.repair(Repair::All);
+        assembled.repair_udp_checksum();
         assembled
     }
 }
@@ -328,6 +330,21 @@ impl Assembled {
         }
     }
 
+    /// Where the checksum over IPv6 stands, and what is right there, if all of UDP's header is.
+    pub fn udp_checksum(&self) -> Option<(usize, u16)> {
+        let upper = self.layout.upper;
+        self.layout.gtpu.filter(|_| !self.layout.ipv4)?;
+        let datagram = self.octets.get(upper..).filter(|d| d.len() >= 8)?;
+        Some((upper + 6, checksum::right(&self.octets[8..40], datagram)))
+    }
+
+    /// Over IPv4 it stays.
+    pub fn repair_udp_checksum(&mut self) {
+        if let Some((at, right)) = self.udp_checksum() {
+            self.set16(at, right.into());
+        }
+    }
+
     pub fn repair_checksum_over(&mut self, length: usize) {
         if self.layout.ipv4 && self.octets.len() >= 20 {
             self.set16(10, 0);
@@ -385,16 +402,16 @@ fn v6_draft(rng: &mut Rng, scene: &Scene, destination: u128) -> Draft {
             grow(rng, &mut draft, usize::MAX);
             draft
         }
-        Behaviour::D { session, policy } | Behaviour::Di { session, policy } => {
-            header.srh = srh_with_sl_0(rng, 25);
-            let gtpu = gtpu(rng, session);
+        Behaviour::D(inbound) | Behaviour::Di(inbound) => {
+            header.srh = srh_with_sl_0(rng, 35);
+            let gtpu = gtpu(rng, inbound.session);
             let mut draft = Draft {
                 ip: IpDraft::V6(header),
                 protocol: next_header::UDP,
                 upper: UpperDraft::Gtpu(gtpu),
             };
-            let segments =
-                scene.table.policies[policy].sids.len() + usize::from(scene.kind == Kind::Di);
+            let segments = scene.table.policies[inbound.policy].sids.len()
+                + usize::from(scene.kind == Kind::Di);
             grow(rng, &mut draft, 65_535 - 8 - 16 * segments);
             draft
         }
@@ -556,7 +573,8 @@ pub fn set_nibble(rng: &mut Rng, inner: &mut Vec<u8>) {
 }
 
 /// Three packets in a hundred get an inner packet around `limit`, the longest
-/// that can be sent, or as long as the length field allows.
+/// that can be sent, or as long as the length field allows. Some are all ones, for
+/// the most carries.
 fn grow(rng: &mut Rng, draft: &mut Draft, limit: usize) {
     if !rng.chance(3) {
         return;
@@ -573,6 +591,9 @@ fn grow(rng: &mut Rng, draft: &mut Draft, limit: usize) {
     if wanted > inner.len() {
         let more = rng.octets(wanted - inner.len());
         inner.extend(more);
+    }
+    if rng.chance(30) {
+        inner.fill(0xff);
     }
     if let UpperDraft::Gtpu(gtpu) = &mut draft.upper {
         if gtpu.inner.len() > 1 {

@@ -3,9 +3,9 @@
 use super::Kind;
 use crate::rng::Rng;
 use crate::table::{
-    self, Behaviour, Direction, Entry, Ipv4Places, Ipv4Prefix, Ipv6Prefix, Policy, Rule, Session,
-    SessionType, Table, ENTRY_LENGTH, MAX_ARGS_START, MAX_ENTRIES, MAX_P, MAX_POLICIES, MAX_Q,
-    MAX_RULES, MAX_SIDS, MAX_WAYPOINTS, POLICY_LENGTH, RULE_LENGTH,
+    self, Behaviour, Direction, Entry, Inbound, Ipv4Places, Ipv4Prefix, Ipv6Prefix, Policy, Rule,
+    Session, SessionType, Table, ENTRY_LENGTH, MAX_ARGS_START, MAX_ENTRIES, MAX_P, MAX_POLICIES,
+    MAX_Q, MAX_RULES, MAX_SIDS, MAX_WAYPOINTS, POLICY_LENGTH, RULE_LENGTH,
 };
 
 /// A sound table and a destination whose longest match is of the kind meant.
@@ -147,18 +147,20 @@ pub fn entry(rng: &mut Rng, prefix: Ipv6Prefix, behaviour: Behaviour) -> Entry {
     }
 }
 
+fn inbound(rng: &mut Rng, session: Session, policies: usize) -> Inbound {
+    Inbound {
+        session,
+        policy: rng.below(policies),
+        zero_checksum: rng.chance(40),
+    }
+}
+
 fn behaviour(rng: &mut Rng, kind: Kind, policies: usize) -> Behaviour {
     let session = session(rng);
     let source_port = rng.u16();
     match kind {
-        Kind::D => Behaviour::D {
-            session,
-            policy: rng.below(policies),
-        },
-        Kind::Di => Behaviour::Di {
-            session,
-            policy: rng.below(policies),
-        },
+        Kind::D => Behaviour::D(inbound(rng, session, policies)),
+        Kind::Di => Behaviour::Di(inbound(rng, session, policies)),
         Kind::E6 => Behaviour::E6 {
             session,
             args_start: args_start(rng),
@@ -298,7 +300,7 @@ pub fn fill_unused(rng: &mut Rng, table: &Table, octets: &mut [u8]) {
                 fill(&mut record[3..9]);
                 fill(&mut record[10..12]);
             }
-            Behaviour::D { .. } | Behaviour::Di { .. } => {
+            Behaviour::D(_) | Behaviour::Di(_) => {
                 fill(&mut record[6..9]);
                 fill(&mut record[10..12]);
             }

@@ -3,6 +3,7 @@
 use super::near::{Near, Part};
 use super::pairs::{self, Ask, Pair};
 use super::Pattern;
+use crate::edges::{self, edge, Edge};
 use crate::generate::{tables, Call};
 use crate::table::{
     mask6, Behaviour, Direction, Entry, Table, MAX_ENTRIES, MAX_POLICIES, MAX_RULES,
@@ -25,42 +26,18 @@ static CONDITIONS: Shape = Shape {
 
 static MET: Shape = Shape {
     corner: "met",
-    lines: &names(),
+    lines: &edges::names::<_, { EDGES.len() }>(EDGES),
     columns: CONDITIONS.columns,
-    can_occur: |line, column| {
-        let edge = EDGES.iter().find(|edge| edge.name == line);
-        edge.is_some_and(|edge| edge.asks.iter().any(|ask| ask.name() == column))
-    },
+    can_occur: |line, column| edges::can_occur(EDGES, line, column),
 };
 
-/// What a pair can meet, and with which calls.
-struct Edge {
-    name: &'static str,
-    asks: &'static [Ask],
-    met: fn(&View) -> bool,
-}
+const SIX: &[&str] = &["ipv6"];
+const FOUR: &[&str] = &["ipv4"];
+const ENDS: &[&str] = &["ipv6", "ipv4"];
+const WAYPOINT: &[&str] = &["waypoint"];
+const ALL: &[&str] = &["ipv6", "ipv4", "waypoint"];
 
-const fn edge(name: &'static str, asks: &'static [Ask], met: fn(&View) -> bool) -> Edge {
-    Edge { name, asks, met }
-}
-
-const fn names() -> [&'static str; EDGES.len()] {
-    let mut names = [""; EDGES.len()];
-    let mut at = 0;
-    while at < names.len() {
-        names[at] = EDGES[at].name;
-        at += 1;
-    }
-    names
-}
-
-const SIX: &[Ask] = &[Ask::Ipv6];
-const FOUR: &[Ask] = &[Ask::Ipv4];
-const ENDS: &[Ask] = &[Ask::Ipv6, Ask::Ipv4];
-const WAYPOINT: &[Ask] = &[Ask::Waypoint];
-const ALL: &[Ask] = &Ask::ALL;
-
-const EDGES: &[Edge] = &[
+const EDGES: &[Edge<fn(&View) -> bool>] = &[
     edge("fits, a longer entry differs before Args", ENDS, |v| {
         v.missed_in(Part::BeforeArgs)
     }),
@@ -367,7 +344,7 @@ impl<'a> View<'a> {
 
     fn near_policy(&self) -> Option<usize> {
         match self.near_entry()?.behaviour {
-            Behaviour::Di { policy, .. } => Some(policy),
+            Behaviour::Di(inbound) => Some(inbound.policy),
             _ => None,
         }
     }
@@ -557,10 +534,7 @@ impl Coverage {
         self.conditions
             .add(&pair.condition().to_string(), column, &[]);
         let view = View::of(pair);
-        let met = |edge: &&Edge| edge.asks.contains(&pair.ask) && (edge.met)(&view);
-        for edge in EDGES.iter().filter(met) {
-            self.met.add(edge.name, column, &[]);
-        }
+        edges::add(&mut self.met, EDGES, column, |met| met(&view));
     }
 
     /// An error that names every gap.

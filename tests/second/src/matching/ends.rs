@@ -6,9 +6,9 @@ use crate::args::{self, ArgsMobSession};
 use crate::generate::{tables, Call};
 use crate::rng::Rng;
 use crate::table::{
-    mask6, Behaviour, Direction, Entry, Ipv4Places, Ipv4Prefix, Ipv6Prefix, Policy, Session,
-    SessionType, Table, MAX_ARGS_START, MAX_ENTRIES, MAX_P, MAX_POLICIES, MAX_Q, MAX_RULES,
-    MAX_SIDS, MAX_WAYPOINTS,
+    mask6, Behaviour, Direction, Entry, Inbound, Ipv4Places, Ipv4Prefix, Ipv6Prefix, Policy,
+    Session, SessionType, Table, MAX_ARGS_START, MAX_ENTRIES, MAX_P, MAX_POLICIES, MAX_Q,
+    MAX_RULES, MAX_SIDS, MAX_WAYPOINTS,
 };
 
 /// Both ends of a trip.
@@ -127,10 +127,11 @@ fn draw6(rng: &mut Rng) -> Draft {
         prefix: Ipv6Prefix::of(destination, edged(rng, 128) as u8),
         hop_limit: hop_limit(rng, count - 1),
         source: rng.u128(),
-        behaviour: Behaviour::Di {
+        behaviour: Behaviour::Di(Inbound {
             session,
             policy: place,
-        },
+            zero_checksum: rng.chance(50),
+        }),
     };
     let others = if full { 8 * MAX_ENTRIES } else { rng.below(5) };
     let target = Some((destination, entry));
@@ -386,9 +387,7 @@ impl Draft {
             let entry = &mut self.near.entries[self.index as usize];
             let policies = self.near.policies.len();
             entry.behaviour = match entry.behaviour {
-                Behaviour::Di { session, policy } if rng.chance(40) => {
-                    Behaviour::D { session, policy }
-                }
+                Behaviour::Di(inbound) if rng.chance(40) => Behaviour::D(inbound),
                 _ => tables::other_behaviour(rng, entry.prefix.length, policies),
             };
         }
@@ -516,10 +515,10 @@ impl Draft {
         let again = rng.between((start + octets).into(), MAX_ARGS_START.into()) as u8;
         let written = ArgsMobSession::read(near.sid(rng), start);
         let entry = &self.near.entries[self.index as usize];
-        let Behaviour::Di { policy, .. } = entry.behaviour else {
+        let Behaviour::Di(inbound) = entry.behaviour else {
             return;
         };
-        let last = self.near.policies[policy].sids.last_mut();
+        let last = self.near.policies[inbound.policy].sids.last_mut();
         let last = last.expect("a SID");
         *last = written.place(*last, again);
         let sid = written.place(*last, start);
@@ -563,10 +562,8 @@ fn beside(rng: &mut Rng, number: u8, most: u8) -> u8 {
 fn session_of(behaviour: &mut Behaviour) -> Option<&mut Session> {
     match behaviour {
         Behaviour::End => None,
-        Behaviour::D { session, .. }
-        | Behaviour::Di { session, .. }
-        | Behaviour::E6 { session, .. }
-        | Behaviour::E4 { session, .. } => Some(session),
+        Behaviour::D(inbound) | Behaviour::Di(inbound) => Some(&mut inbound.session),
+        Behaviour::E6 { session, .. } | Behaviour::E4 { session, .. } => Some(session),
     }
 }
 

@@ -3,7 +3,7 @@
 use super::Pattern;
 use crate::generate::Call;
 use crate::rng::Rng;
-use crate::table::{Behaviour, Direction, Ipv4Prefix, Ipv6Prefix, Session, Table};
+use crate::table::{Behaviour, Direction, Inbound, Ipv4Prefix, Ipv6Prefix, Session, Table};
 
 /// A Di entry or a rule of the near table.
 #[derive(Clone, Debug)]
@@ -53,7 +53,10 @@ impl Near {
 
     fn of_entry(table: &Table, index: usize) -> Option<Near> {
         let entry = table.entries.get(index)?;
-        let Behaviour::Di { session, policy } = entry.behaviour else {
+        let Behaviour::Di(Inbound {
+            session, policy, ..
+        }) = entry.behaviour
+        else {
             return None;
         };
         let policy = &table.policies[policy];

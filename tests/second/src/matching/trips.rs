@@ -514,14 +514,14 @@ impl<G: Gateway> Trips<'_, G> {
     }
 }
 
-/// A packet as it is delivered, but 0 where the far entry alone decides: hop limit, IPv6 source and
-/// UDP source port; over IPv4 TTL, checksum and UDP source port.
+/// A packet as it is delivered, but 0 where the far entry decides: hop limit, IPv6 source, UDP source
+/// port and checksum; over IPv4 TTL, header checksum and UDP source port.
 fn without_far_fields(p: Option<u8>, mut packet: Vec<u8>) -> Vec<u8> {
     let fields = match p {
-        None => [7..8, 8..24, 40..42],
-        Some(_) => [8..9, 10..12, 20..22],
+        None => &[7..24, 40..42, 46..48][..],
+        Some(_) => &[8..9, 10..12, 20..22],
     };
-    for field in fields {
+    for field in fields.iter().cloned() {
         if let Some(octets) = packet.get_mut(field) {
             octets.fill(0);
         }

@@ -4,22 +4,24 @@
 use super::{End, Family, Stop, Trip};
 use crate::generate::Call;
 use crate::table::{
-    Behaviour, Direction, Entry, Ipv4Places, Ipv4Prefix, Ipv6Prefix, Policy, Rule, Session,
-    SessionType, Table,
+    Behaviour, Direction, Entry, Inbound, Ipv4Places, Ipv4Prefix, Ipv6Prefix, Policy, Rule,
+    Session, SessionType, Table,
 };
 
 const SESSION: Session = Session {
     direction: Direction::Downlink,
     session_type: SessionType::Ipv6,
 };
-/// UDP from 2152 to 2152, then a G-PDU: TEID 01020304, a container of PDU type 0
-/// with R 1 and QFI 5, four inner octets.
+/// UDP from 2152 to 2152 with checksum 0, then a G-PDU: TEID 01020304, a container of
+/// PDU type 0 with R 1 and QFI 5, four inner octets.
 const TUNNELLED: [u8; 28] = [
     0x08, 0x68, 0x08, 0x68, 0x00, 0x1c, 0x00, 0x00, 0x34, 0xff, 0x00, 0x0c, 0x01, 0x02, 0x03, 0x04,
     0x00, 0x00, 0x00, 0x85, 0x01, 0x00, 0x45, 0x00, 0x60, 0x00, 0x00, 0x00,
 ];
 const FAR: u128 = 0x2001_0db8_000b_0001 << 64;
 const NEAR: u128 = 0x2001_0db8_000a_0000_0000_0000_0000_0001;
+/// Over IPv6 from this address to the near gateway the UDP checksum is B3D1, from the next B2D2.
+const SENDER: u128 = 0x2001_0db8 << 96 | 1;
 const FAR_SOURCE: u128 = 0x2001_0db8_00ff_0000_0000_0000_0000_0001;
 const HOP_LIMIT: u8 = 64;
 const FAR4: u128 = 0x2001_0db8_000c << 80;
@@ -61,11 +63,12 @@ fn one_entry(prefix: Ipv6Prefix, behaviour: Behaviour, length: usize) -> Stop {
     stop(Call::Ipv6, table, length)
 }
 
-fn over_ipv6(source: u128) -> Vec<u8> {
+fn over_ipv6(source: u128, checksum: u16) -> Vec<u8> {
     let mut packet = vec![0x60, 0, 0, 0, 0, TUNNELLED.len() as u8, 17, HOP_LIMIT];
     packet.extend(source.to_be_bytes());
     packet.extend(NEAR.to_be_bytes());
     packet.extend(TUNNELLED);
+    packet[46..48].copy_from_slice(&checksum.to_be_bytes());
     packet
 }
 
@@ -84,7 +87,11 @@ fn near6(waypoints: Vec<u128>, length: usize) -> Stop {
     let table = Table {
         entries: vec![entry(
             Ipv6Prefix::of(NEAR, 128),
-            Behaviour::Di { session, policy: 0 },
+            Behaviour::Di(Inbound {
+                session,
+                policy: 0,
+                zero_checksum: false,
+            }),
         )],
         policies: vec![Policy {
             args_start: 8,
@@ -125,9 +132,9 @@ pub fn flow_5(family: Family, waypoints: usize) -> Trip {
                 args_start: 8,
                 source_port,
             };
-            let arrives = over_ipv6(FAR_SOURCE);
+            let arrives = over_ipv6(FAR_SOURCE, 0xb2d2);
             let far = one_entry(Ipv6Prefix::of(FAR, 64), behaviour, arrives.len());
-            let packet = over_ipv6(0x2001_0db8 << 96 | 1);
+            let packet = over_ipv6(SENDER, 0xb3d1);
             (
                 packet,
                 near6(sids.clone(), sr_length),
