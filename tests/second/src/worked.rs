@@ -1,5 +1,12 @@
 //! The worked packets (docs/RULES.md, Worked packets): each that can be said as a function's result;
-//! those of order 1, Echo; and those of order 13, for the readers.
+//! those of order 1, Echo; of order 2, UDP checksums; and of order 13, for the readers.
+//!
+//! Order 2 restates the packets for D and Di, which had UDP checksum 0 and have the right one now,
+//! and what E6 and a reply over IPv6 write: rows "Inner 100", "Result 164", "D with 8 SIDs", "E6
+//! with SL 1", the SID that D sends to, and the Echo Requests over IPv6. Their answers and
+//! lengths stay. The checksums were computed apart from this program. Over IPv4 nothing changes.
+
+mod checksum;
 
 use crate::answer::Answer;
 use crate::args::ArgsMobSession;
@@ -55,11 +62,24 @@ fn entry(address: u128, length: u8, behaviour: Behaviour) -> Entry {
     }
 }
 
-fn table_of(behaviour: fn(Session, usize) -> Behaviour, sids: usize) -> Vec<u8> {
+fn table_of(behaviour: fn(Inbound) -> Behaviour, sids: usize) -> Vec<u8> {
+    table_allowing(false, behaviour, sids)
+}
+
+fn table_allowing(
+    zero_checksum: bool,
+    behaviour: fn(Inbound) -> Behaviour,
+    sids: usize,
+) -> Vec<u8> {
+    let inbound = Inbound {
+        session: SESSION,
+        policy: 0,
+        zero_checksum,
+    };
     let mut policy = vec![WAYPOINT; sids - 1];
     policy.push(FAR_LOCATOR);
     let table = Table {
-        entries: vec![entry(NEAR, 128, behaviour(SESSION, 0))],
+        entries: vec![entry(NEAR, 128, behaviour(inbound))],
         policies: vec![Policy {
             args_start: 8,
             sids: policy,
@@ -67,22 +87,6 @@ fn table_of(behaviour: fn(Session, usize) -> Behaviour, sids: usize) -> Vec<u8> 
         ..Table::default()
     };
     table.encode()
-}
-
-fn inbound(session: Session, policy: usize) -> Inbound {
-    Inbound {
-        session,
-        policy,
-        zero_checksum: false,
-    }
-}
-
-fn d(session: Session, policy: usize) -> Behaviour {
-    Behaviour::D(inbound(session, policy))
-}
-
-fn di(session: Session, policy: usize) -> Behaviour {
-    Behaviour::Di(inbound(session, policy))
 }
 
 fn e6_table() -> Vec<u8> {
@@ -133,7 +137,7 @@ fn ipv6(next_header: u8, hop_limit: u8, destination: u128, payload: &[u8]) -> Ve
     packet
 }
 
-/// UDP and GTP-U as in the worked octets, around this many inner octets.
+/// UDP with checksum 0 and GTP-U as in the worked octets, around this many inner octets.
 fn tunnelled(inner: usize) -> Vec<u8> {
     let mut payload = vec![0x08, 0x68, 0x08, 0x68];
     payload.extend(((24 + inner) as u16).to_be_bytes());
@@ -144,8 +148,13 @@ fn tunnelled(inner: usize) -> Vec<u8> {
     payload
 }
 
-fn over_ipv6(inner: usize) -> Vec<u8> {
-    ipv6(17, 64, NEAR, &tunnelled(inner))
+fn with_checksum(checksum: u16, mut datagram: Vec<u8>) -> Vec<u8> {
+    datagram[6..8].copy_from_slice(&checksum.to_be_bytes());
+    datagram
+}
+
+fn over_ipv6(inner: usize, checksum: u16) -> Vec<u8> {
+    ipv6(17, 64, NEAR, &with_checksum(checksum, tunnelled(inner)))
 }
 
 /// 198.51.100.7 to 192.0.2.1.
@@ -166,21 +175,24 @@ fn over_ipv4(inner: usize) -> Vec<u8> {
 /// TEID 0, sequence number 1234.
 const ECHO: [u8; 12] = [0x32, 1, 0, 4, 0, 0, 0, 0, 0x12, 0x34, 0, 0];
 
-/// UDP and GTP-U of the reply, to port 12345.
+/// The right UDP checksum of that request from port 12345 over IPv6.
+const ECHO_CHECKSUM: u16 = 0xcc9f;
+
+/// UDP and GTP-U of the reply, to port 12345, with checksum 0.
 const ECHO_REPLY: [u8; 22] = [
     0x08, 0x68, 0x30, 0x39, 0x00, 0x16, 0x00, 0x00, 0x32, 0x02, 0x00, 0x06, 0x00, 0x00, 0x00, 0x00,
     0x12, 0x34, 0x00, 0x00, 0x0e, 0x00,
 ];
 
-/// From port 12345.
+/// From port 12345, checksum 0.
 fn to_gtpu(message: &[u8]) -> Vec<u8> {
     let length = 8 + message.len() as u8;
     [&[0x30, 0x39, 0x08, 0x68, 0, length, 0, 0], message].concat()
 }
 
 /// Traffic class B8, flow label 12345, hop limit 9.
-fn echo_over_ipv6(message: &[u8]) -> Vec<u8> {
-    let mut packet = ipv6(17, 9, NEAR, &to_gtpu(message));
+fn echo_over_ipv6(message: &[u8], checksum: u16) -> Vec<u8> {
+    let mut packet = ipv6(17, 9, NEAR, &with_checksum(checksum, to_gtpu(message)));
     packet[..4].copy_from_slice(&[0x6b, 0x81, 0x23, 0x45]);
     packet
 }
@@ -193,16 +205,20 @@ fn echo_over_ipv4(message: &[u8]) -> Vec<u8> {
 /// Behind an SRH of two segments with SL 0.
 fn echo_behind_srh() -> Vec<u8> {
     let srh = [17, 4, 4, 0, 1, 0, 0, 0];
-    let datagram = to_gtpu(&ECHO);
+    let datagram = with_checksum(ECHO_CHECKSUM, to_gtpu(&ECHO));
     ipv6(43, 9, NEAR, &[&srh[..], &[0x22; 32], &datagram].concat())
 }
 
 /// SRH with two segments around two inner octets.
 fn with_srh(destination: u128, hop_limit: u8, segments_left: u8) -> Vec<u8> {
+    srh_around(&[0x60, 0], destination, hop_limit, segments_left)
+}
+
+fn srh_around(inner: &[u8], destination: u128, hop_limit: u8, segments_left: u8) -> Vec<u8> {
     let mut payload = vec![41, 4, 4, segments_left, 1, 0, 0, 0];
     payload.extend(NEAR.to_be_bytes());
     payload.extend(FAR_WITH_ARGS.to_be_bytes());
-    payload.extend([0x60, 0]);
+    payload.extend(inner);
     ipv6(43, hop_limit, destination, &payload)
 }
 
@@ -251,7 +267,8 @@ pub fn calls() -> Vec<WorkedCall> {
             answer,
         })
     };
-    let packet = over_ipv6(100);
+    let packet = over_ipv6(100, 0xe110);
+    let (d, di) = (Behaviour::D, Behaviour::Di);
     let with = |behaviour, sids| table_of(behaviour, sids);
     ipv6(
         "D with one SID sends 164",
@@ -338,14 +355,14 @@ pub fn calls() -> Vec<WorkedCall> {
 
     ipv6(
         "D with 8 SIDs: inner 65,399 is sent",
-        &over_ipv6(65_399),
+        &over_ipv6(65_399, 0x2071),
         &with(d, 8),
         ROOM,
         Answer::sent(65_575),
     );
     ipv6(
         "D with 8 SIDs: inner 65,400 is 15",
-        &over_ipv6(65_400),
+        &over_ipv6(65_400, 0x200e),
         &with(d, 8),
         ROOM,
         refused(15, 0, 0, 0),
@@ -354,7 +371,7 @@ pub fn calls() -> Vec<WorkedCall> {
     ipv6("empty: 2", &[], &with(d, 1), ROOM, refused(2, 0, 0, 0));
     ipv6(
         "39 octets: 2",
-        &over_ipv6(0)[..39],
+        &over_ipv6(0, 0xb50f)[..39],
         &with(d, 1),
         ROOM,
         refused(2, 0, 0, 0),
@@ -393,12 +410,13 @@ pub fn calls() -> Vec<WorkedCall> {
         answer: Answer::sent(42),
     });
     calls.extend(echo_calls());
+    calls.extend(checksum::calls());
     calls
 }
 
 /// Those of order 1.
 fn echo_calls() -> Vec<WorkedCall> {
-    let (with_d, with_di) = (table_of(d, 1), table_of(di, 3));
+    let (with_d, with_di) = (table_of(Behaviour::D, 1), table_of(Behaviour::Di, 3));
     let with_teid = [&ECHO[..7], &[1], &ECHO[8..]].concat();
     let without_s = [0x30, 1, 0, 0, 0, 0, 0, 0];
     let with_e = [&[0x36][..], &ECHO[1..3], &[6], &ECHO[4..11], &[0x85, 0, 0]].concat();
@@ -409,14 +427,14 @@ fn echo_calls() -> Vec<WorkedCall> {
     let over_ipv6 = [
         (
             "Echo Request at D: a reply of 62",
-            echo_over_ipv6(&ECHO),
+            echo_over_ipv6(&ECHO, ECHO_CHECKSUM),
             &with_d,
             ROOM,
             Answer::sent(62),
         ),
         (
             "Echo Request at Di: a reply of 62",
-            echo_over_ipv6(&ECHO),
+            echo_over_ipv6(&ECHO, ECHO_CHECKSUM),
             &with_di,
             62,
             Answer::sent(62),
@@ -430,49 +448,49 @@ fn echo_calls() -> Vec<WorkedCall> {
         ),
         (
             "Echo Request with E, an extension of 0 units: a reply of 62",
-            echo_over_ipv6(&with_e),
+            echo_over_ipv6(&with_e, 0xc814),
             &with_d,
             ROOM,
             Answer::sent(62),
         ),
         (
             "Echo Request, room 61: 16",
-            echo_over_ipv6(&ECHO),
+            echo_over_ipv6(&ECHO, ECHO_CHECKSUM),
             &with_d,
             61,
             no_room,
         ),
         (
             "Echo Request without S: 17",
-            echo_over_ipv6(&without_s),
+            echo_over_ipv6(&without_s, 0xe0df),
             &with_d,
             ROOM,
             bad_echo,
         ),
         (
             "Echo Request with TEID 1: 17",
-            echo_over_ipv6(&with_teid),
+            echo_over_ipv6(&with_teid, 0xcc9e),
             &with_di,
             ROOM,
             bad_echo,
         ),
         (
             "Echo Request with TEID 1, no room: 17",
-            echo_over_ipv6(&with_teid),
+            echo_over_ipv6(&with_teid, 0xcc9e),
             &with_d,
             0,
             bad_echo,
         ),
         (
             "Echo Request with S, eleven octets: 10",
-            echo_over_ipv6(&cut),
+            echo_over_ipv6(&cut, 0xcca2),
             &with_d,
             ROOM,
             refused(10, 0, 0, 0),
         ),
         (
             "Echo Response at D: 11",
-            echo_over_ipv6(&response),
+            echo_over_ipv6(&response, 0xcc9e),
             &with_d,
             ROOM,
             refused(11, 0, 0, 0),
@@ -578,7 +596,7 @@ pub fn lines() -> Vec<Line> {
         "that Args at a = 8 behind 2001:db8:b:1::/64",
         equal(ARGS.place(FAR_LOCATOR, 8), FAR_WITH_ARGS),
     );
-    let (_, sent) = call6(&over_ipv6(2), &table_of(d, 1));
+    let (_, sent) = call6(&over_ipv6(2, 0x54a9), &table_of(Behaviour::D, 1));
     line(
         "the same as the destination that D sends",
         equal(sent.get(24..40), Some(&FAR_WITH_ARGS.to_be_bytes()[..])),
@@ -601,16 +619,23 @@ pub fn lines() -> Vec<Line> {
         line(worked.words, equal(answer, worked.answer));
     }
 
-    let packet = over_ipv6(100);
+    let packet = over_ipv6(100, 0xe110);
     line(
         "inner 100: 164 octets in over IPv6",
         equal(packet.len(), 164),
     );
-    let (_, sent) = call6(&packet, &table_of(di, 1));
+    let (_, sent) = call6(&packet, &table_of(Behaviour::Di, 1));
     let (_, last) = call6(&sent, &e6_table());
     line(
-        "E6 sends the octets that went in behind the IPv6 header",
+        "E6 sends the octets that went in behind the UDP header",
         equal(last.get(48..), packet.get(48..)),
+    );
+    line(
+        "and before them the ports and the length, with its own checksum",
+        equal(
+            last.get(40..48),
+            Some(&[0x08, 0x68, 0x08, 0x68, 0, 124, 0x3a, 0xe0][..]),
+        ),
     );
     let (_, sent) = call6(&with_srh(WAYPOINT, 2, 1), &waypoint_table());
     line(
@@ -618,12 +643,14 @@ pub fn lines() -> Vec<Line> {
         equal(sent.get(7), Some(&1)),
     );
 
-    let (_, sent) = call6(&echo_over_ipv6(&ECHO), &table_of(d, 1));
+    let request = echo_over_ipv6(&ECHO, ECHO_CHECKSUM);
+    let (_, sent) = call6(&request, &table_of(Behaviour::D, 1));
+    let reply = with_checksum(0xbe98, ECHO_REPLY.to_vec());
     let front = [0x6b, 0x80, 0, 0, 0, 22, 17, 64];
     let addresses = [NEAR.to_be_bytes(), [0x11; 16]].concat();
     line(
         "the reply over IPv6: addresses exchanged, class B8, hop limit 64, to port 12345",
-        equal(sent, [&front, &addresses[..], &ECHO_REPLY].concat()),
+        equal(sent, [&front, &addresses[..], &reply].concat()),
     );
     let (_, sent) = call(Call::Ipv4, &echo_over_ipv4(&ECHO), &rule_table(), 1000);
     let header = [
@@ -634,6 +661,9 @@ pub fn lines() -> Vec<Line> {
         equal(sent, [&header[..], &ECHO_REPLY].concat()),
     );
 
+    for (words, result) in checksum::lines() {
+        line(words, result);
+    }
     for worked in readings() {
         line(worked.words, worked.reading.check());
     }
