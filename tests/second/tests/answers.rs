@@ -1,8 +1,8 @@
 //! Each answer number by a packet made by hand.
 
 use second::table::{
-    Behaviour, Direction, Entry, Ipv4Places, Ipv4Prefix, Ipv6Prefix, Policy, Rule, Session,
-    SessionType, Table,
+    Behaviour, Direction, Entry, Inbound, Ipv4Places, Ipv4Prefix, Ipv6Prefix, Policy, Rule,
+    Session, SessionType, Table,
 };
 use second::{translate_ipv4, translate_ipv6, Answer, Call};
 
@@ -27,6 +27,11 @@ fn session(session_type: SessionType) -> Session {
 
 fn table_with(session_type: SessionType, waypoints: usize) -> Table {
     let session = session(session_type);
+    let inbound = Inbound {
+        session,
+        policy: 0,
+        zero_checksum: false,
+    };
     let places = Ipv4Places { p: 6, q: 8 };
     let entry = |address: u128, behaviour| Entry {
         prefix: Ipv6Prefix::of(address, 32),
@@ -37,8 +42,8 @@ fn table_with(session_type: SessionType, waypoints: usize) -> Table {
     Table {
         entries: vec![
             entry(WAYPOINT, Behaviour::End),
-            entry(D, Behaviour::D { session, policy: 0 }),
-            entry(DI, Behaviour::Di { session, policy: 0 }),
+            entry(D, Behaviour::D(inbound)),
+            entry(DI, Behaviour::Di(inbound)),
             entry(
                 E6,
                 Behaviour::E6 {
@@ -76,6 +81,16 @@ fn table() -> Vec<u8> {
     table_with(SessionType::Ipv6, 2).encode()
 }
 
+/// With D and Di that allow UDP checksum 0.
+fn lenient() -> Vec<u8> {
+    let mut octets = table();
+    for entry in [1, 2] {
+        octets[16 + 64 * entry + 9] = 1;
+    }
+    octets
+}
+
+/// The UDP checksum is right, where there is UDP.
 fn ipv6(next_header: u8, destination: u128, payload: &[u8]) -> Vec<u8> {
     let mut packet = vec![0x6a, 0xb1, 0x23, 0x45];
     packet.extend((payload.len() as u16).to_be_bytes());
@@ -83,7 +98,43 @@ fn ipv6(next_header: u8, destination: u128, payload: &[u8]) -> Vec<u8> {
     packet.extend(SOURCE.to_be_bytes());
     packet.extend(destination.to_be_bytes());
     packet.extend(payload);
+    fix_udp_checksum(&mut packet);
     packet
+}
+
+/// Where UDP begins in an IPv6 packet, also behind an SRH.
+fn udp_at(packet: &[u8]) -> Option<usize> {
+    let at = match packet[6] {
+        17 => 40,
+        43 if packet.get(40) == Some(&17) => 48 + 8 * usize::from(packet[41]),
+        _ => return None,
+    };
+    (packet.len() >= at + 8).then_some(at)
+}
+
+fn fix_udp_checksum(packet: &mut [u8]) {
+    if let Some(at) = udp_at(packet) {
+        set16(packet, at + 6, 0);
+        let length = (packet.len() - at) as u32;
+        let words = packet[8..40].chunks(2).chain(packet[at..].chunks(2));
+        let mut sum = length + 17;
+        for word in words {
+            sum += u32::from(word[0]) << 8 | u32::from(*word.get(1).unwrap_or(&0));
+        }
+        while sum > 0xffff {
+            sum = (sum >> 16) + (sum & 0xffff);
+        }
+        let checksum = if sum == 0xffff { sum } else { 0xffff - sum };
+        set16(packet, at + 6, checksum as u16);
+    }
+}
+
+fn set16(packet: &mut [u8], at: usize, value: u16) {
+    packet[at..at + 2].copy_from_slice(&value.to_be_bytes());
+}
+
+fn get16(packet: &[u8], at: usize) -> u16 {
+    u16::from_be_bytes([packet[at], packet[at + 1]])
 }
 
 fn srh(
@@ -240,7 +291,7 @@ fn number_0_e6() {
         &[0x6a, 0xb0, 0, 0, 0, 27, 17, 33],
         &(0xfd11u128 << 112 | 1).to_be_bytes(),
         &NOWHERE.to_be_bytes(),
-        &[0x12, 0x34, 0x08, 0x68, 0, 27, 0, 0],
+        &[0x12, 0x34, 0x08, 0x68, 0, 27, 0x4c, 0xc2],
         &[
             0x34, 0xff, 0, 11, 1, 2, 3, 4, 0, 0, 0, 0x85, 1, 0x00, 0x49, 0,
         ],
@@ -550,12 +601,14 @@ fn echo_with(flags: u8, next_type: u8, behind: &[u8]) -> Vec<u8> {
 }
 
 fn reply6(asked: u128) -> Vec<u8> {
-    octets(&[
+    let mut reply = octets(&[
         &[0x6a, 0xb0, 0, 0, 0, 22, 17, 33],
         &asked.to_be_bytes(),
         &SOURCE.to_be_bytes(),
         &ECHO_REPLY,
-    ])
+    ]);
+    fix_udp_checksum(&mut reply);
+    reply
 }
 
 fn reply4() -> Vec<u8> {
@@ -626,6 +679,7 @@ fn echo_to_any_port_with_any_number() {
             let mut wanted = reply6(D);
             wanted[42..44].copy_from_slice(&port.to_be_bytes());
             wanted[56..58].copy_from_slice(&number.to_be_bytes());
+            fix_udp_checksum(&mut wanted);
             assert_eq!((answer, sent), (Answer::sent(62), wanted));
             let packet = ipv4(17, [192, 0, 2, 1], &datagram);
             let (answer, sent) = run(Call::Ipv4, &packet, &table(), 100);
@@ -838,4 +892,223 @@ fn number_16() {
     for (room, number) in [(0, 16), (98, 16), (99, 0), (100, 0)] {
         assert_eq!(run(Call::Ipv4, &valid4(), &table(), room).0.number, number);
     }
+}
+
+/// A G-PDU of even and one of odd length, and an Echo Request, at D and Di, each also behind an SRH.
+fn arriving() -> Vec<Vec<u8>> {
+    let messages = [gtpu(&INNER), gtpu(&INNER[..2]), ECHO.to_vec()];
+    let mut packets = Vec::new();
+    for asked in [D, DI] {
+        for message in &messages {
+            let datagram = udp(message);
+            packets.push(ipv6(17, asked, &datagram));
+            let routed = srh(17, 0, 9, &[NOWHERE, E6], &datagram);
+            packets.push(ipv6(43, asked, &routed));
+        }
+    }
+    packets
+}
+
+fn with_checksum(packet: &[u8], checksum: u16) -> Vec<u8> {
+    let mut packet = packet.to_vec();
+    let at = udp_at(&packet).unwrap();
+    set16(&mut packet, at + 6, checksum);
+    packet
+}
+
+/// Both tables, the second allows 0.
+fn strict_and_lenient(packet: &[u8]) -> [u8; 2] {
+    let room = packet.len() + 100;
+    [table(), lenient()].map(|table| run(Call::Ipv6, packet, &table, room).0.number)
+}
+
+#[test]
+fn number_18() {
+    for packet in arriving() {
+        assert_eq!(strict_and_lenient(&packet), [0, 0]);
+        assert_eq!(strict_and_lenient(&with_checksum(&packet, 0)), [18, 0]);
+        assert_eq!(
+            strict_and_lenient(&with_checksum(&packet, 0xffff)),
+            [18, 18]
+        );
+        // No ICMP, no length; also without room.
+        let wrong = with_checksum(&packet, 0);
+        assert_eq!(run(Call::Ipv6, &wrong, &table(), 0).0.pack(), 18);
+    }
+}
+
+/// Each bit of the source, of the destination behind its prefix, of the source port and of all that
+/// follows the length.
+#[test]
+fn number_18_each_bit() {
+    for packet in arriving() {
+        let at = udp_at(&packet).unwrap();
+        let covered = (8..24).chain(28..40).chain([at, at + 1]);
+        for octet in covered.chain(at + 6..packet.len()) {
+            for bit in 0..8 {
+                let mut wrong = packet.clone();
+                wrong[octet] ^= 1 << bit;
+                assert_eq!(strict_and_lenient(&wrong), [18, 18], "octet {octet}");
+            }
+        }
+        // Not covered: traffic class, flow label, hop limit, what an SRH holds.
+        let free = [1, 2, 3, 7].into_iter().chain(45..at);
+        for octet in free {
+            let mut other = packet.clone();
+            other[octet] ^= 0x0f;
+            assert_eq!(strict_and_lenient(&other), [0, 0], "octet {octet}");
+        }
+    }
+}
+
+/// One field of all is right, and 0 where it is allowed.
+#[test]
+fn number_18_each_field() {
+    for packet in arriving().into_iter().take(2) {
+        let right = get16(&packet, udp_at(&packet).unwrap() + 6);
+        for field in 0..=u16::MAX {
+            let wanted = match field {
+                0 => [18, 0],
+                _ if field == right => [0, 0],
+                _ => [18, 18],
+            };
+            let packet = with_checksum(&packet, field);
+            assert_eq!(strict_and_lenient(&packet), wanted, "field {field:04x}");
+        }
+    }
+}
+
+/// The source port that makes 0 the computed one.
+#[test]
+fn number_18_and_ffff() {
+    for mut packet in arriving() {
+        let at = udp_at(&packet).unwrap();
+        let sum = u32::from(get16(&packet, at)) + u32::from(get16(&packet, at + 6));
+        set16(&mut packet, at, (sum % 65_535) as u16);
+        fix_udp_checksum(&mut packet);
+        assert_eq!(get16(&packet, at + 6), 0xffff);
+        assert_eq!(strict_and_lenient(&packet), [0, 0]);
+        assert_eq!(strict_and_lenient(&with_checksum(&packet, 0)), [18, 0]);
+        for field in [1, 0xfffe, 0x7fff, 0xff00] {
+            assert_eq!(strict_and_lenient(&with_checksum(&packet, field)), [18, 18]);
+        }
+    }
+}
+
+/// Behind 9 and before 10: with each later row, and with 8 and 9.
+#[test]
+fn the_place_of_18() {
+    let of_ipv4v6 = table_with(SessionType::Ipv4v6, 2).encode();
+    let changed = |octet: usize, value: u8| {
+        let mut message = gtpu(&INNER);
+        message[octet] = value;
+        message
+    };
+    let later = [
+        (changed(0, 0x54), 10),
+        (changed(1, 254), 11),
+        (changed(11, 0x40), 12),
+        (changed(13, 0x10), 13),
+        (gtpu(&[0x50]), 14),
+        (gtpu(&vec![0x60; 65_496]), 15),
+        (echo(7, 1), 17),
+    ];
+    for asked in [D, DI] {
+        for (message, number) in &later {
+            let right = ipv6(17, asked, &udp(message));
+            let wrong = with_checksum(&right, 0xffff);
+            let (zero, table) = (with_checksum(&right, 0), &of_ipv4v6);
+            assert_eq!(number6(&right, table), *number);
+            assert_eq!(number6(&wrong, table), 18);
+            assert_eq!(number6(&zero, table), 18);
+        }
+        let right = valid6(asked);
+        assert_eq!(run(Call::Ipv6, &right, &table(), 0).0.number, 16);
+        let wrong = with_checksum(&right, 1);
+        assert_eq!(run(Call::Ipv6, &wrong, &table(), 0).0.number, 18);
+        for (octet, value, number) in [(43, 0x69, 8), (45, 28, 9), (45, 26, 9)] {
+            let mut wrong = with_checksum(&right, 0);
+            wrong[octet] = value;
+            assert_eq!(number6(&wrong, &table()), number);
+        }
+        for length in 0..8 {
+            assert_eq!(number6(&ipv6(17, asked, &[0; 8][..length]), &table()), 9);
+        }
+        // 7, of an SRH before it.
+        let routed = srh(17, 1, 0, &[D], &udp(&gtpu(&INNER)));
+        let wrong = with_checksum(&ipv6(43, asked, &routed), 1);
+        assert_icmp(&wrong, (7, 4, 0, 43));
+    }
+}
+
+/// Every checksum passes at D4, and E4 and a reply over IPv4 write 0.
+#[test]
+fn no_18_over_ipv4() {
+    for field in [0, 1, 0xdead, 0xffff] {
+        for (message, length) in [(gtpu(&INNER), 99), (ECHO.to_vec(), 42)] {
+            let mut datagram = udp(&message);
+            set16(&mut datagram, 6, field);
+            let packet = ipv4(17, [192, 0, 2, 1], &datagram);
+            let (answer, sent) = run(Call::Ipv4, &packet, &table(), 100);
+            assert_eq!(answer, Answer::sent(length));
+            assert!(length != 42 || sent[26..28] == [0; 2]);
+        }
+    }
+}
+
+/// What E6 writes: right for every length, for ones and zeros, and FFFF for 0.
+#[test]
+fn what_e6_writes_is_right() {
+    let at_e6 = |inner: &[u8]| {
+        let packet = ipv6(43, E6, &srh(41, 1, 1, &[DI, E6], inner));
+        let (answer, sent) = run(Call::Ipv6, &packet, &table(), 70_000);
+        assert_eq!(answer, Answer::sent(64 + inner.len()));
+        let mut fixed = sent.clone();
+        fix_udp_checksum(&mut fixed);
+        assert_eq!(sent, fixed);
+        // It goes to Di, and is taken there.
+        assert_eq!(
+            strict_and_lenient(&sent)[0],
+            if inner.len() > 65_479 { 15 } else { 0 }
+        );
+        get16(&sent, 46)
+    };
+    for length in [0, 1, 2, 3, 64, 65, 65_478, 65_479, 65_480, 65_487] {
+        for octet in [0, 1, 0x60, 0xff] {
+            assert_ne!(at_e6(&vec![octet; length]), 0);
+        }
+    }
+    let word = (0x60aa + u32::from(at_e6(&INNER[..2]))) % 65_535;
+    assert_eq!(at_e6(&(word as u16).to_be_bytes()), 0xffff);
+}
+
+#[test]
+fn the_mark_of_octet_9() {
+    let good = table();
+    for (entry, kind) in [1, 69, 70, 71, 72].into_iter().enumerate() {
+        for mark in 0..=255 {
+            let mut octets = good.clone();
+            octets[16 + 64 * entry + 9] = mark;
+            let marked = matches!(kind, 69 | 70);
+            let sound = mark == 0 || marked && mark == 1;
+            let number = if sound { 0 } else { 1 };
+            assert_eq!(number6(&valid6(D), &octets), number, "{kind}: {mark}");
+            let condition = match (sound, marked) {
+                (true, _) => 0,
+                (false, true) => 0x20f | (entry as u64) << 16,
+                (false, false) => 0x20d | (entry as u64) << 16,
+            };
+            assert_eq!(second::fault::fault(&octets), condition, "{kind}: {mark}");
+        }
+    }
+    // Behind the entry's other conditions, before a prefix that occurs twice.
+    let mut octets = good.clone();
+    octets[16 + 64 + 9] = 2;
+    octets.copy_within(16 + 64 + 16..16 + 64 + 32, 16 + 128 + 16);
+    assert_eq!(second::fault::fault(&octets), 0x1_020f);
+    octets[16 + 64 + 5] = 1;
+    assert_eq!(second::fault::fault(&octets), 0x1_0207);
+    octets[16 + 64 + 5] = 0;
+    octets[16 + 64 + 9] = 1;
+    assert_eq!(second::fault::fault(&octets), 0x2_020e);
 }

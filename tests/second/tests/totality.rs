@@ -12,7 +12,7 @@ fn run_both(packet: &[u8], table: &[u8], room: usize, filler: u8) {
         let mut out = vec![filler; room];
         let answer = Answer::unpack(translate(call, packet, table, &mut out));
         let length = answer.length as usize;
-        assert!(answer.number <= 17);
+        assert!(answer.number <= 18);
         assert!(length <= room);
         assert!(answer.number == 0 || length == 0);
         assert!(out[length..].iter().all(|&octet| octet == filler));
