@@ -7,10 +7,9 @@ use crate::mutate;
 use crate::place::Place;
 use crate::progress::{Progress, INTERVAL};
 use crate::raw;
-use second::coverage::{echo, Coverage};
+use second::coverage::Met;
 use second::loss::histories;
 use second::matching::pairs;
-use second::tally::Tally;
 use second::{generate, Answer, Case};
 use std::sync::atomic::{AtomicU64, Ordering};
 use std::sync::mpsc::{self, RecvTimeoutError, Sender};
@@ -40,28 +39,9 @@ pub struct Outcome {
     pub histories: u64,
     pub pairs: u64,
     pub differences: u64,
+    /// By what the library answered.
     pub met: Met,
     pub seconds: u64,
-}
-
-/// What the library answered: the numbers, and what Echo Requests met.
-pub struct Met {
-    pub coverage: Coverage,
-    pub echo: Tally,
-}
-
-impl Met {
-    fn new() -> Self {
-        Met {
-            coverage: Coverage::default(),
-            echo: Tally::new(&echo::SHAPE),
-        }
-    }
-
-    fn add(&mut self, case: &Case, found: Answer) {
-        self.coverage.add(case.kind, found.number);
-        echo::add(&mut self.echo, case, found);
-    }
 }
 
 /// A difference in words.
@@ -186,10 +166,7 @@ impl Work {
             }
             for thread in threads {
                 match thread.join() {
-                    Ok(of_thread) => {
-                        met.coverage += &of_thread.coverage;
-                        met.echo += &of_thread.echo;
-                    }
+                    Ok(of_thread) => met += &of_thread,
                     Err(panic) => std::panic::resume_unwind(panic),
                 }
             }

@@ -11,11 +11,13 @@ const STATUS: &str =
 pub const COMMANDS: [(&str, &[&str], &str); 11] = [
     (
         "cases",
-        &["--seed", "--cases", "--threads"],
-        "  boundary cases --seed N --cases M [--threads T]
+        &["--seed", "--cases", "--threads", "--tables"],
+        "  boundary cases --seed N --cases M [--threads T] [--tables J]
       make the calls of the first M cases of a seed, on T threads (as many as there
       are processors if not given); print what Echo Requests met at each kind, and
-      how often the library gave each answer number there
+      UDP checksums, and how often the library gave each answer number there; a gap
+      is a failure in the first J of three tables (all if not given): the numbers,
+      Echo Requests, UDP checksums
 ",
     ),
     (

@@ -24,7 +24,7 @@ use cases::Work;
 use library::Export;
 use place::Place;
 use second::command::{self, Failure, Options};
-use second::coverage::Coverage;
+use second::coverage::{Coverage, Met};
 use second::matching::pairs::Ask;
 use second::{vectors, Call};
 use std::io::Write;
@@ -109,6 +109,7 @@ fn run(words: &[String], out: &mut dyn Write) -> Result<(), Failure> {
 fn run_cases(options: &Options, out: &mut dyn Write) -> Result<(), Failure> {
     let seed = options.get("--seed")?;
     let cases = count(options, "--cases", None)?;
+    let tables = options.get_or("--tables", Met::TABLES);
     let outcome = Work {
         command: "cases",
         seed,
@@ -119,13 +120,12 @@ fn run_cases(options: &Options, out: &mut dyn Write) -> Result<(), Failure> {
         deadline: None,
     }
     .run();
-    let met = &outcome.met;
-    let judged = met.coverage.judge().and(met.echo.judge());
+    let judged = outcome.met.judge_first(tables);
     let gaps = match judged {
         Ok(()) => "no gap",
         Err(_) => "places not as they should be",
     };
-    writeln!(out, "{}", met.echo)?;
+    writeln!(out, "{}", outcome.met)?;
     report(&format!("seed {seed}, {gaps}"), &outcome, out)?;
     judged.map_err(Failure::Check)
 }
@@ -149,6 +149,7 @@ fn run_fuzz(options: &Options, out: &mut dyn Write) -> Result<(), Failure> {
     }
     .run();
     let (histories, pairs) = (outcome.histories, outcome.pairs);
+    writeln!(out, "{}", outcome.met.numbers)?;
     report(
         &format!("seed {seed}, {histories} histories of offers, {pairs} pairs"),
         &outcome,
@@ -163,7 +164,6 @@ fn report(what: &str, outcome: &cases::Outcome, out: &mut dyn Write) -> Result<(
         seconds,
         ..
     } = outcome;
-    writeln!(out, "{}", outcome.met.coverage)?;
     writeln!(
         out,
         "{what}: {cases} cases, {differences} differences, {seconds} s"

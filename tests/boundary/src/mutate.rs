@@ -1,7 +1,8 @@
 //! Cases with chance octets changed, cut off or added. What is expected of them
 //! comes from the second program.
 
-use second::generate::{self, Call, Case, Kind};
+use second::generate::{self, checksum, Call, Case, Kind};
+use second::ipv6::next_header::{ROUTING, UDP};
 use second::rng::Rng;
 
 /// The most octets added at a time.
@@ -79,8 +80,8 @@ fn octets(rng: &mut Rng, octets: &mut Vec<u8>) {
     }
 }
 
-/// Half of the time makes the IP length and checksum right again, so that more
-/// than the first checks are reached.
+/// Half of the time makes the IP length and checksum right again, and over IPv6 the
+/// UDP checksum, so that more than the first checks are reached.
 fn repair(rng: &mut Rng, call: Call, packet: &mut [u8]) {
     if rng.chance(50) {
         return;
@@ -89,6 +90,7 @@ fn repair(rng: &mut Rng, call: Call, packet: &mut [u8]) {
     match call {
         Call::Ipv6 if length >= 40 => {
             packet[4..6].copy_from_slice(&((length - 40) as u16).to_be_bytes());
+            repair_udp(packet);
         }
         Call::Ipv4 if length >= 20 => {
             packet[2..4].copy_from_slice(&(length as u16).to_be_bytes());
@@ -97,5 +99,17 @@ fn repair(rng: &mut Rng, call: Call, packet: &mut [u8]) {
             packet[10..12].copy_from_slice(&checksum.to_be_bytes());
         }
         _ => {}
+    }
+}
+
+fn repair_udp(packet: &mut [u8]) {
+    let (protocol, upper) = match (packet[6], packet.get(40..42)) {
+        (ROUTING, Some(&[protocol, units])) => (protocol, 48 + 8 * usize::from(units)),
+        (protocol, _) => (protocol, 40),
+    };
+    if protocol == UDP && packet.len() >= upper + 8 {
+        let (front, datagram) = packet.split_at_mut(upper);
+        let right = checksum::right(&front[8..40], datagram);
+        datagram[6..8].copy_from_slice(&right.to_be_bytes());
     }
 }

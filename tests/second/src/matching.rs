@@ -15,7 +15,7 @@ mod routes;
 pub mod trips;
 
 use crate::table::{
-    mask4, mask6, Behaviour, Direction, Entry, Inbound, Ipv6Prefix, Policy, Rule, Session, Table,
+    mask4, mask6, Behaviour, Direction, Entry, Ipv6Prefix, Policy, Rule, Session, Table,
 };
 
 /// Args, and the parts of it that can vary. U, between R and TEID, is sent 0.
@@ -143,13 +143,10 @@ impl Pattern {
 pub fn match_ipv6(near: &[u8], index: u64, far: &[u8]) -> Result<(), Mismatch> {
     let (near, far) = sound(near, far)?;
     let entry = record(&near.entries, index)?;
-    let Behaviour::Di(Inbound {
-        session, policy, ..
-    }) = entry.behaviour
-    else {
+    let Behaviour::Di(inbound) = entry.behaviour else {
         return Err(Condition::Di.fails());
     };
-    let policy = &near.policies[policy];
+    let (session, policy) = (inbound.session, &near.policies[inbound.policy]);
     let pattern = Pattern::of_policy(policy, session.direction);
     let (at, longest) = pattern.longest(&far).ok_or(Condition::Entry.fails())?;
     let Behaviour::E6 {
@@ -222,7 +219,7 @@ fn above_waypoints(hop_limit: u8, waypoints: usize, at: usize) -> Result<(), Mis
 #[cfg(test)]
 mod tests {
     use super::*;
-    use crate::table::{Ipv4Places, Ipv4Prefix, SessionType};
+    use crate::table::{Inbound, Ipv4Places, Ipv4Prefix, SessionType};
 
     const SESSION: Session = Session {
         direction: Direction::Downlink,

@@ -195,9 +195,10 @@ impl<'a> Arriving<'a, '_> {
         self.chain.require_segments_left_0()?;
         let stray = self.chain.upper_layer_error();
         let datagram = udp::to_gtpu(self.chain.protocol, self.chain.upper, stray)?;
+        let (source, destination) = (self.packet.source, self.packet.destination);
         let addresses = Addresses {
-            source: self.packet.source,
-            destination: self.packet.destination,
+            source,
+            destination,
         };
         datagram.verify(addresses, tunnel.zero_checksum)?;
         decapsulate(datagram, tunnel.session)
