@@ -1,8 +1,9 @@
 //! Order 13: TEID and sequence number of a packet as it arrives.
 //!
 //! "Well-formed" is said by the rows of docs/RULES.md, Answers, as at D, Di and D4. No table is asked, so
-//! rows 1 and 4 are not examined; nor are the extensions and what follows them, rows 12 to 16. An Echo
-//! Request is no G-PDU, so row 11 is for it too here.
+//! rows 1 and 4 are not examined, nor the UDP checksum, row 18, which an entry may allow to be 0; nor are
+//! the extensions and what follows them, rows 12 to 16. An Echo Request is no G-PDU, so row 11 is for it
+//! too here.
 
 pub mod cases;
 pub mod coverage;

@@ -29,7 +29,9 @@ const WAYPOINT: &[&str] = &["waypoint"];
 /// Longer than any datagram that is not meant to be long.
 const LONG: usize = 60_000;
 
-const EDGES: &[Edge<fn(&View) -> bool>] = &[
+type Test = fn(&View) -> bool;
+
+const EDGES: &[Edge<Test>] = &[
     edge("right", IN, |v| v.passed() && v.is_right()),
     edge("right, 0 allowed", IN, |v| {
         v.passed() && v.is_right() && v.allowed

@@ -22,7 +22,9 @@ const SIX: &[&str] = &["D", "Di"];
 const OTHERS: &[&str] = &["waypoint", "E6", "E4"];
 const WAYPOINT: &[&str] = &["waypoint"];
 
-const EDGES: &[Edge<fn(&View) -> bool>] = &[
+type Test = fn(&View) -> bool;
+
+const EDGES: &[Edge<Test>] = &[
     edge("answered", ANSWER, |v| v.is(0)),
     edge("answered, E set", ANSWER, |v| v.is(0) && v.has(flag::E)),
     edge("answered, PN set", ANSWER, |v| v.is(0) && v.has(flag::PN)),

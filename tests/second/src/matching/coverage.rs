@@ -37,7 +37,9 @@ const ENDS: &[&str] = &["ipv6", "ipv4"];
 const WAYPOINT: &[&str] = &["waypoint"];
 const ALL: &[&str] = &["ipv6", "ipv4", "waypoint"];
 
-const EDGES: &[Edge<fn(&View) -> bool>] = &[
+type Test = fn(&View) -> bool;
+
+const EDGES: &[Edge<Test>] = &[
     edge("fits, a longer entry differs before Args", ENDS, |v| {
         v.missed_in(Part::BeforeArgs)
     }),
