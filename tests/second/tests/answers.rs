@@ -1056,30 +1056,33 @@ fn no_18_over_ipv4() {
     }
 }
 
-/// What E6 writes: right for every length, for ones and zeros, and FFFF for 0.
+/// What E6 writes: right for every length, for ones and zeros, and FFFF for 0; taken at D and Di.
 #[test]
 fn what_e6_writes_is_right() {
-    let at_e6 = |inner: &[u8]| {
-        let packet = ipv6(43, E6, &srh(41, 1, 1, &[DI, E6], inner));
+    let at_e6 = |inner: &[u8], destination: u128, number: u8| {
+        let packet = ipv6(43, E6, &srh(41, 1, 1, &[destination, E6], inner));
         let (answer, sent) = run(Call::Ipv6, &packet, &table(), 70_000);
         assert_eq!(answer, Answer::sent(64 + inner.len()));
         let mut fixed = sent.clone();
         fix_udp_checksum(&mut fixed);
         assert_eq!(sent, fixed);
-        // It goes to Di, and is taken there.
-        assert_eq!(
-            strict_and_lenient(&sent)[0],
-            if inner.len() > 65_479 { 15 } else { 0 }
-        );
+        assert_eq!(number6(&sent, &table()), number);
         get16(&sent, 46)
     };
     for length in [0, 1, 2, 3, 64, 65, 65_478, 65_479, 65_480, 65_487] {
+        let too_long = if length > 65_479 { 15 } else { 0 };
         for octet in [0, 1, 0x60, 0xff] {
-            assert_ne!(at_e6(&vec![octet; length]), 0);
+            let inner = vec![octet; length];
+            assert_ne!(at_e6(&inner, DI, too_long), 0);
+            assert_ne!(at_e6(&inner, D, 0), 0);
         }
     }
-    let word = (0x60aa + u32::from(at_e6(&INNER[..2]))) % 65_535;
-    assert_eq!(at_e6(&(word as u16).to_be_bytes()), 0xffff);
+    for destination in [D, DI] {
+        let checksum = at_e6(&INNER[..2], destination, 0);
+        let word = (0x60aa + u32::from(checksum)) % 65_535;
+        let inner = (word as u16).to_be_bytes();
+        assert_eq!(at_e6(&inner, destination, 0), 0xffff);
+    }
 }
 
 #[test]
