@@ -145,16 +145,14 @@ const EDGES: &[Edge<Test>] = &[
         v.is(0) && v.case.sent.len() == 64
     }),
     edge("written, long and all ones inside", E6, |v| {
-        v.is(0) && is_all_ones(&v.case.sent[40..])
+        v.is(0) && is_all_ones(v.sent(40, v.case.sent.len()))
     }),
     edge("written, FFFF for 0", E6, |v| v.writes_ffff()),
-    edge("written as 0", E4, |v| {
-        v.is(0) && v.case.sent[26..28] == [0; 2]
-    }),
+    edge("written as 0", E4, |v| v.is(0) && v.sent(26, 28) == [0; 2]),
     edge("0 is not examined", D4, |v| v.is(0) && v.field == 0),
     edge("another is not examined", D4, |v| v.is(0) && v.field != 0),
     edge("Echo Response, 0", D4, |v| {
-        v.is(0) && v.is_echo() && v.case.sent[26..28] == [0; 2]
+        v.is(0) && v.is_echo() && v.sent(26, 28) == [0; 2]
     }),
     edge("sent on, wrong or 0", WAYPOINT, |v| {
         v.is(0) && v.datagram.len() >= 10 && !v.is_right()
@@ -238,6 +236,11 @@ impl<'a> View<'a> {
         Some((view, column))
     }
 
+    /// Octets that should be sent; none where they are not there.
+    fn sent(&self, from: usize, to: usize) -> &'a [u8] {
+        self.case.sent.get(from..to).unwrap_or(&[])
+    }
+
     fn is(&self, number: u8) -> bool {
         self.answer.number == number
     }
@@ -302,7 +305,7 @@ impl<'a> View<'a> {
     }
 
     fn writes_ffff(&self) -> bool {
-        self.is(0) && self.case.sent[46..48] == [0xff; 2]
+        self.is(0) && self.sent(46, 48) == [0xff; 2]
     }
 }
 

@@ -5,6 +5,7 @@
 use super::packets::Assembled;
 use super::{Call, Kind, LONGEST};
 use crate::gtpu::ECHO_RESPONSE;
+use crate::ipv6::next_header;
 use crate::rng::Rng;
 
 /// What coverage asks for by name.
@@ -57,9 +58,10 @@ fn answer(packet: &Assembled, table: &[u8]) -> (u8, Vec<u8>) {
     (answer.number, out)
 }
 
-/// What stands in the field of a packet sent.
-fn field(sent: &[u8]) -> u16 {
-    u16::from_be_bytes([sent[46], sent[47]])
+/// What stands in the field of a packet sent over IPv6.
+fn field(sent: &[u8]) -> Option<u16> {
+    let field = sent.get(46..48)?.try_into().ok()?;
+    Some(u16::from_be_bytes(field))
 }
 
 /// A word that is more by a checksum: with the word in its place, 0 is computed.
@@ -85,7 +87,7 @@ fn steer_e6(rng: &mut Rng, packet: &mut Assembled, table: &[u8]) -> Option<&'sta
         Some(at) if rng.chance(60) => at,
         _ => word(rng, segment, segment + 16)?,
     };
-    add(packet, at, field(&sent));
+    add(packet, at, field(&sent)?);
     Some("0 is computed for what E6 writes")
 }
 
@@ -94,7 +96,7 @@ fn steer_reply(rng: &mut Rng, packet: &mut Assembled, sent: &[u8]) -> Option<&'s
     let number = packet.layout.gtpu? + 8;
     let address = word(rng, 8, 24)?;
     let at = rng.pick(&[number, packet.layout.upper, address]);
-    add(packet, at, field(sent));
+    add(packet, at, field(sent)?);
     packet.repair_udp_checksum();
     Some("0 is computed for the Echo Response")
 }
@@ -125,7 +127,7 @@ fn at_d(rng: &mut Rng, packet: &mut Assembled, table: &[u8]) -> Option<&'static 
     packet.repair_udp_checksum();
     let (at, right) = packet.udp_checksum()?;
     let (number, sent) = answer(packet, table);
-    if number == 0 && sent[6] == 17 && sent[49] == ECHO_RESPONSE {
+    if number == 0 && sent[6] == next_header::UDP && sent.get(49) == Some(&ECHO_RESPONSE) {
         match rng.below(10) {
             0 => return steer_reply(rng, packet, &sent),
             1 => {
