@@ -37,7 +37,7 @@
  * Of this header, and of the library and the tool that were built with it. CHANGELOG.md says what each version brought.
  */
 #define KAWSARPA_VERSION_MAJOR 0
-#define KAWSARPA_VERSION_MINOR 5
+#define KAWSARPA_VERSION_MINOR 6
 #define KAWSARPA_VERSION_PATCH 0
 
 /* The same as a string: "1.2.3" for 1, 2 and 3. */
@@ -59,6 +59,10 @@
  * translated: with S set and TEID 0 the call answers 0, and the output is the Echo Response (type 2) with the request's sequence number
  * and the Recovery element 0E 00. Its addresses are those of the request exchanged, its ports 2152 and the request's source port. The
  * caller sends it like any other packet. kawsarpa_is_echo_response tells it from a packet that is sent on.
+ *
+ * Over IPv6 the UDP checksum is computed (RFC 8200, section 8.1): in what E6 sends and in an Echo Response, with FFFF in the place of a
+ * computed 0. D and Di verify it in what arrives, in Echo Requests too; an entry may allow a checksum of 0 there, which is then not
+ * verified (zero_checksum). Over IPv4 it is written as 0, and not examined.
  *
  * A refusal changes no octet of the output. A packet that is sent changes the first octets of the output, as many as the answer's
  * length says, and no other octet. An output of KAWSARPA_OUT_MAX octets, or of KAWSARPA_GROWTH_MAX more than the packet has, always
@@ -167,7 +171,7 @@ static inline uint64_t kawsarpa_call_table_fault(const uint8_t *table, size_t ta
  * Number in bits 0 to 7, ICMP type in 8 to 15, ICMP code in 16 to 23, ICMP pointer in 24 to 39, length in 40 to 63.
  */
 
-/* The smallest number that applies, with 17 in the place of 11. */
+/* The first number that applies, in this order: 1 to 9, 18, 10, 17 (of an Echo Request) or 11 (of other messages), 12 to 16. */
 static inline uint8_t kawsarpa_answer_number(uint64_t answer)
 {
     return KAWSARPA_AS(uint8_t, answer & 0xFF);
@@ -235,6 +239,8 @@ enum {
     KAWSARPA_ANSWER_NO_ROOM = 16,
     /* an Echo Request (type 1) without S or with a TEID other than 0; in the place of 11 for that type */
     KAWSARPA_ANSWER_BAD_ECHO = 17,
+    /* D, Di: UDP checksum wrong, or 0 where the entry does not allow it; between 9 and 10 */
+    KAWSARPA_ANSWER_BAD_CHECKSUM = 18,
     /* offers only: no row is free for a new TEID */
     KAWSARPA_ANSWER_NO_ROW = 25,
     /* offers only: the row has seen 4,294,967,295 */
@@ -254,7 +260,7 @@ static inline const char *kawsarpa_answer_name(unsigned int number)
     static const char *const names[] = {
         "sent", "table not sound", "malformed packet", "bad IPv4 header", "no match", "bad header chain", "hop limit exceeded",
         "bad segments left", "bad upper layer", "bad UDP", "bad GTP-U", "not a G-PDU", "bad extensions", "bad container",
-        "bad inner packet", "too long", "no room", "bad Echo Request", 0, 0, 0, 0, 0, 0, 0, "no row free", "row full"
+        "bad inner packet", "too long", "no room", "bad Echo Request", "bad UDP checksum", 0, 0, 0, 0, 0, 0, "no row free", "row full"
     };
     /* clang-format on */
     return number < sizeof names / sizeof names[0] && names[number] != 0 ? names[number] : "unknown";
@@ -339,7 +345,7 @@ uint64_t kawsarpa_loss_offer(struct kawsarpa_loss_row *rows, size_t count, uint3
 
 /*
  * TEID and sequence number of a well-formed G-PDU with S; 0 for everything else, a G-PDU without S included. Well-formed: of the
- * answers 2, 3, 5 and 7 to 11 none applies, as at D, Di and D4. No table is asked.
+ * answers 2, 3, 5 and 7 to 11 none applies, as at D, Di and D4. No table is asked, and no UDP checksum verified.
  */
 uint64_t kawsarpa_sequence_ipv6(const uint8_t *packet, size_t packet_len);
 
@@ -467,10 +473,12 @@ enum {
     KAWSARPA_FAULT_ENTRY_Q = 11,
     /* E4: the prefix has at most 8p bits */
     KAWSARPA_FAULT_ENTRY_PREFIX_BEFORE_ADDRESS = 12,
-    /* the reserved octet is 0 */
+    /* waypoint, E6, E4: the reserved octet, which is D's and Di's zero_checksum, is 0 */
     KAWSARPA_FAULT_ENTRY_RESERVED = 13,
-    /* no earlier entry has this prefix with its length */
-    KAWSARPA_FAULT_ENTRY_REPEATED = 14
+    /* no earlier entry has this prefix with its length; tried behind 15 */
+    KAWSARPA_FAULT_ENTRY_REPEATED = 14,
+    /* D, Di: zero_checksum is 0 or 1 */
+    KAWSARPA_FAULT_ENTRY_ZERO_CHECKSUM = 15
 };
 
 /* The conditions on a rule. */
@@ -514,12 +522,12 @@ enum {
 /* What is wrong, in words, whatever the index is; "unknown" for a number that is no fault. */
 static inline const char *kawsarpa_fault_name(uint64_t fault)
 {
-    static const char *const names[4][14] = {
+    static const char *const names[4][15] = {
         {"unknown format", "too many entries", "too many rules", "too many policies", "wrong length of the table"},
         {"entry: unknown behaviour", "entry: prefix length over 128", "entry: bits past the prefix's length", "entry: hop limit 0",
          "entry: unknown direction", "entry: unknown session type", "entry: no such policy", "entry: bad start of Args",
          "entry: prefix longer than 8a", "entry: p over 7", "entry: q over 12", "entry: prefix longer than 8p",
-         "entry: reserved octet not 0", "entry: prefix of an earlier entry"},
+         "entry: reserved octet not 0", "entry: prefix of an earlier entry", "entry: zero_checksum not 0 or 1"},
         {"rule: prefix length over 32", "rule: bits past the prefix's length", "rule: hop limit 0", "rule: unknown direction",
          "rule: unknown session type", "rule: p over 7", "rule: q over 12", "rule: bits past 8p of the SID prefix",
          "rule: bits past 8q of the source prefix", "rule: over 7 waypoints", "rule: reserved octet not 0",
@@ -530,7 +538,7 @@ static inline const char *kawsarpa_fault_name(uint64_t fault)
     unsigned int record = kawsarpa_fault_record(fault);
     if (fault == 0)
         return "sound";
-    if (fault >> 32 != 0 || record < 1 || record > 4 || condition < 1 || condition > 14 || names[record - 1][condition - 1] == NULL)
+    if (fault >> 32 != 0 || record < 1 || record > 4 || condition < 1 || condition > 15 || names[record - 1][condition - 1] == NULL)
         return "unknown";
     return names[record - 1][condition - 1];
 }
@@ -555,8 +563,8 @@ static inline const char *kawsarpa_fault_name(uint64_t fault)
  *
  * Index counts from 0. They fit where every Args that can be written (any QFI and TEID; any reflective bit in downlink, 0 in uplink)
  * and over IPv4 every destination under the rule's prefix lead to one entry of the far table, of the right kind and with the same
- * values. Destinations that a longer rule of the near table takes away are not left out. A D entry has no far end: only its waypoints
- * can be asked for.
+ * values. Destinations that a longer rule of the near table takes away are not left out. Whether the near entry allows a UDP checksum
+ * of 0 is no matter. A D entry has no far end: only its waypoints can be asked for.
  *
  * Otherwise the first condition that fails is told, by its number, in bits 0 to 7. From KAWSARPA_MISMATCH_KIND on, and for
  * KAWSARPA_MISMATCH_WAYPOINT_KIND, bits 8 to 15 hold KAWSARPA_RECORD_ENTRY and bits 16 to 31 the index of the entry of the far, or
@@ -771,6 +779,12 @@ enum {
     KAWSARPA_SESSION_ETHERNET = 5
 };
 
+/* What D and Di do with a packet that arrives with UDP checksum 0. */
+enum {
+    KAWSARPA_ZERO_CHECKSUM_REFUSE = 0, /* with answer 18 */
+    KAWSARPA_ZERO_CHECKSUM_ALLOW = 1   /* it is not verified: only for a tunnel that is set up for it (RFC 6935) */
+};
+
 struct kawsarpa_table_header {
     uint8_t format;      /* KAWSARPA_FORMAT */
     uint8_t spare1;      /* never examined */
@@ -791,7 +805,7 @@ struct kawsarpa_entry {
     uint8_t args_start;     /* E6: the bit of the destination at which Args begin, 8a with a from 0 to 11 */
     uint8_t p;              /* E4: octets of the destination before the IPv4 destination, 0 to 7 */
     uint8_t q;              /* E4: octets of the source before the IPv4 source, 0 to 12 */
-    uint8_t reserved;       /* 0 */
+    uint8_t zero_checksum;  /* D, Di: KAWSARPA_ZERO_CHECKSUM_...; else reserved, 0 */
     uint8_t source_port[2]; /* E6, E4: UDP source port of what is sent */
     uint8_t spare12[4];     /* never examined */
     uint8_t prefix[16];     /* bits past prefix_length are 0 */
@@ -847,7 +861,7 @@ KAWSARPA_AT(5, entry, policy);
 KAWSARPA_AT(6, entry, args_start);
 KAWSARPA_AT(7, entry, p);
 KAWSARPA_AT(8, entry, q);
-KAWSARPA_AT(9, entry, reserved);
+KAWSARPA_AT(9, entry, zero_checksum);
 KAWSARPA_AT(10, entry, source_port);
 KAWSARPA_AT(16, entry, prefix);
 KAWSARPA_AT(32, entry, source);

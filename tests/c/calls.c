@@ -1,6 +1,6 @@
 /*
- * The calls from C: one of each kind, two whole trips, Echo Requests, some refusals, null pointers with a count of 0. Prints a line for
- * each check.
+ * The calls from C: one of each kind, two whole trips, Echo Requests, UDP checksums, some refusals, null pointers with a count of 0.
+ * Prints a line for each check.
  */
 #include "checks.h"
 #include "kawsarpa.h"
@@ -195,20 +195,20 @@ static void check_header(const struct table *table)
           "readers of an answer", "each reads its own bits");
 
     for (i = 0; i <= 256; i++) {
-        const int known = i <= KAWSARPA_ANSWER_BAD_ECHO || i == KAWSARPA_ANSWER_NO_ROW || i == KAWSARPA_ANSWER_ROW_FULL;
+        const int known = i <= KAWSARPA_ANSWER_BAD_CHECKSUM || i == KAWSARPA_ANSWER_NO_ROW || i == KAWSARPA_ANSWER_ROW_FULL;
         if ((strcmp(kawsarpa_answer_name(i), "unknown") != 0) != known)
             named = 0;
         for (j = 0; known && j < i; j++)
             if (strcmp(kawsarpa_answer_name(i), kawsarpa_answer_name(j)) == 0)
                 named = 0;
     }
-    check(named, "kawsarpa_answer_name", "0 to 17, 25 and 26 have names of their own, and the others up to 256 have none");
+    check(named, "kawsarpa_answer_name", "0 to 18, 25 and 26 have names of their own, and the others up to 256 have none");
     check(strcmp(kawsarpa_answer_name(KAWSARPA_ANSWER_SENT), "sent") == 0 &&
               strcmp(kawsarpa_answer_name(KAWSARPA_ANSWER_BAD_UDP), "bad UDP") == 0 &&
               strcmp(kawsarpa_answer_name(KAWSARPA_ANSWER_NO_ROOM), "no room") == 0 &&
-              strcmp(kawsarpa_answer_name(17), "bad Echo Request") == 0 && strcmp(kawsarpa_answer_name(25), "no row free") == 0 &&
-              strcmp(kawsarpa_answer_name(26), "row full") == 0,
-          "kawsarpa_answer_name", "0, 9, 16, 17, 25 and 26 have the right ones");
+              strcmp(kawsarpa_answer_name(17), "bad Echo Request") == 0 && strcmp(kawsarpa_answer_name(18), "bad UDP checksum") == 0 &&
+              strcmp(kawsarpa_answer_name(25), "no row free") == 0 && strcmp(kawsarpa_answer_name(26), "row full") == 0,
+          "kawsarpa_answer_name", "0, 9, 16, 17, 18, 25 and 26 have the right ones");
 }
 
 static void check_trip_ipv6(const struct table *table)
@@ -250,12 +250,15 @@ static void check_echo(const struct table *table)
     memcpy(reply, echo_from_di, sizeof reply);
     packet[29] = reply[13] = 1; /* to the D entry, which has hop limit 61 */
     reply[7] = 61;
+    kawsarpa_put16(packet + 70, 0x3C6B);
+    kawsarpa_put16(reply + 46, 0xAAB0);
     sent(kawsarpa_translate_ipv6, packet, sizeof echo_to_di, table, reply, sizeof reply, "Echo at D");
     sent(kawsarpa_translate_ipv4, echo_to_d4, sizeof echo_to_d4, table, echo_from_d4, sizeof echo_from_d4, "Echo at D4");
     check(kawsarpa_is_echo_response(buffer + GUARD, sizeof echo_from_d4) == 1, "Echo at D4", "an Echo Response");
 
     memcpy(packet, echo_to_di, sizeof echo_to_di);
     packet[72] = 0x35;
+    kawsarpa_put16(packet + 70, 0x3E6A);
     refused(kawsarpa_translate_ipv6, packet, sizeof echo_to_di, table, sizeof *table, KAWSARPA_ANSWER_BAD_ECHO, "Echo without S at Di");
     memcpy(packet, echo_to_d4, sizeof echo_to_d4);
     packet[32] = 1;
@@ -268,6 +271,118 @@ static void check_echo(const struct table *table)
     check(kawsarpa_is_echo_response(from_e6, sizeof from_e6) == 0 && kawsarpa_is_echo_response(from_e4, sizeof from_e4) == 0 &&
               kawsarpa_is_echo_response(from_d, sizeof from_d) == 0 && kawsarpa_is_echo_response(NULL, 0) == 0,
           "kawsarpa_is_echo_response", "0 of packets that are sent on, and of nothing");
+}
+
+/* UDP checksums that arrive at D and Di: 18 has no ICMP, comes behind 8 and 9 and before all else, and allowing 0 allows nothing else. */
+static void check_arriving_checksums(const struct table *table)
+{
+    struct table allowing = *table;
+    uint8_t packet[ROOM];
+    allowing.entries[D].zero_checksum = allowing.entries[DI].zero_checksum = KAWSARPA_ZERO_CHECKSUM_ALLOW;
+
+    memcpy(packet, to_di, sizeof to_di);
+    packet[47] ^= 1;
+    refused(kawsarpa_translate_ipv6, packet, sizeof to_di, table, sizeof *table, KAWSARPA_ANSWER_BAD_CHECKSUM, "one off at Di");
+    refused(kawsarpa_translate_ipv6, packet, sizeof to_di, &allowing, sizeof allowing, KAWSARPA_ANSWER_BAD_CHECKSUM,
+            "one off at Di that allows 0");
+    refused_in(0, kawsarpa_translate_ipv6, packet, sizeof to_di, table, sizeof *table, KAWSARPA_ANSWER_BAD_CHECKSUM, 0, 0, 0,
+               "one off at Di, room 0");
+    packet[48] = 0x5F;
+    refused(kawsarpa_translate_ipv6, packet, sizeof to_di, table, sizeof *table, KAWSARPA_ANSWER_BAD_CHECKSUM, "and GTP-U version 2");
+    packet[45]++;
+    refused(kawsarpa_translate_ipv6, packet, sizeof to_di, table, sizeof *table, KAWSARPA_ANSWER_BAD_UDP, "and another UDP length");
+    packet[43]++;
+    refused_with_icmp(kawsarpa_translate_ipv6, packet, sizeof to_di, table, KAWSARPA_ANSWER_UPPER_LAYER, KAWSARPA_ICMP_PARAMETER_PROBLEM, 4,
+                      40, "and another port");
+
+    memcpy(packet, to_d, sizeof to_d);
+    packet[65] ^= 1;
+    refused(kawsarpa_translate_ipv6, packet, sizeof to_d, table, sizeof *table, KAWSARPA_ANSWER_BAD_CHECKSUM, "last octet changed at D");
+    memcpy(packet, to_d, sizeof to_d);
+    packet[8] ^= 1;
+    refused(kawsarpa_translate_ipv6, packet, sizeof to_d, table, sizeof *table, KAWSARPA_ANSWER_BAD_CHECKSUM, "source changed at D");
+    memcpy(packet, to_di, sizeof to_di);
+    packet[72]++; /* the octet behind which one is missing in the last word, as if it were the lower one */
+    packet[47]--;
+    refused(kawsarpa_translate_ipv6, packet, sizeof to_di, table, sizeof *table, KAWSARPA_ANSWER_BAD_CHECKSUM,
+            "the odd octet as a low one");
+
+    memcpy(packet, to_d, sizeof to_d);
+    kawsarpa_put16(packet + 46, 0);
+    refused(kawsarpa_translate_ipv6, packet, sizeof to_d, table, sizeof *table, KAWSARPA_ANSWER_BAD_CHECKSUM, "0 at D");
+    sent(kawsarpa_translate_ipv6, packet, sizeof to_d, &allowing, from_d, sizeof from_d, "0 at D that allows it");
+    sent(kawsarpa_translate_ipv6, to_d, sizeof to_d, &allowing, from_d, sizeof from_d, "the right one at D that allows 0");
+    memcpy(packet, to_di, sizeof to_di);
+    kawsarpa_put16(packet + 46, 0);
+    refused(kawsarpa_translate_ipv6, packet, sizeof to_di, table, sizeof *table, KAWSARPA_ANSWER_BAD_CHECKSUM, "0 at Di");
+    sent(kawsarpa_translate_ipv6, packet, sizeof to_di, &allowing, from_di, sizeof from_di, "0 at Di that allows it");
+    packet[48] = 0x5F;
+    refused(kawsarpa_translate_ipv6, packet, sizeof to_di, &allowing, sizeof allowing, KAWSARPA_ANSWER_BAD_GTPU,
+            "0 at Di that allows it, GTP-U version 2");
+    allowing.entries[DI].zero_checksum = KAWSARPA_ZERO_CHECKSUM_REFUSE;
+    packet[48] = 0x3F;
+    refused(kawsarpa_translate_ipv6, packet, sizeof to_di, &allowing, sizeof allowing, KAWSARPA_ANSWER_BAD_CHECKSUM,
+            "0 at Di where D alone allows it");
+
+    memcpy(packet, to_di, sizeof to_di);
+    kawsarpa_put16(packet + 46, 0x033A);
+    packet[48] = 0x5F;
+    refused(kawsarpa_translate_ipv6, packet, sizeof to_di, table, sizeof *table, KAWSARPA_ANSWER_BAD_GTPU, "right, with GTP-U version 2");
+    memcpy(packet, to_di, sizeof to_di);
+    kawsarpa_put16(packet + 46, 0xFFFF);
+    refused(kawsarpa_translate_ipv6, packet, sizeof to_di, table, sizeof *table, KAWSARPA_ANSWER_BAD_CHECKSUM, "FFFF where 233A is right");
+}
+
+/* Where 0 is computed FFFF is right, in what arrives and in what is sent. */
+static void check_computed_zero(const struct table *table)
+{
+    uint8_t packet[ROOM], expected[ROOM];
+
+    memcpy(packet, to_di, sizeof to_di);
+    memcpy(expected, from_di, sizeof from_di);
+    kawsarpa_put16(packet + 70, 0xDF06); /* in the inner packet */
+    kawsarpa_put16(expected + 98, 0xDF06);
+    kawsarpa_put16(packet + 46, 0xFFFF);
+    sent(kawsarpa_translate_ipv6, packet, sizeof to_di, table, expected, sizeof from_di, "FFFF at Di, 0 computed");
+    kawsarpa_put16(packet + 46, 0);
+    refused(kawsarpa_translate_ipv6, packet, sizeof to_di, table, sizeof *table, KAWSARPA_ANSWER_BAD_CHECKSUM, "0 at Di, 0 computed");
+
+    memcpy(packet, to_e6, sizeof to_e6);
+    memcpy(expected, from_e6, sizeof from_e6);
+    kawsarpa_put16(packet + 98, 0x3902);
+    kawsarpa_put16(expected + 66, 0x3902);
+    kawsarpa_put16(expected + 46, 0xFFFF);
+    sent(kawsarpa_translate_ipv6, packet, sizeof to_e6, table, expected, sizeof from_e6, "E6, 0 computed");
+}
+
+/* Echo Requests over IPv6: verified as G-PDUs are, and answered with the true checksum, also where a request had 0. */
+static void check_echo_checksums(const struct table *table)
+{
+    struct table allowing = *table;
+    uint8_t packet[ROOM], reply[sizeof echo_from_di];
+    allowing.entries[DI].zero_checksum = KAWSARPA_ZERO_CHECKSUM_ALLOW;
+
+    memcpy(packet, echo_to_di, sizeof echo_to_di);
+    packet[70] ^= 0x80;
+    refused(kawsarpa_translate_ipv6, packet, sizeof echo_to_di, table, sizeof *table, KAWSARPA_ANSWER_BAD_CHECKSUM, "Echo, wrong at Di");
+    packet[72] = 0x35;
+    refused(kawsarpa_translate_ipv6, packet, sizeof echo_to_di, table, sizeof *table, KAWSARPA_ANSWER_BAD_CHECKSUM,
+            "Echo without S, wrong at Di");
+    memcpy(packet, echo_to_di, sizeof echo_to_di);
+    kawsarpa_put16(packet + 70, 0);
+    refused(kawsarpa_translate_ipv6, packet, sizeof echo_to_di, table, sizeof *table, KAWSARPA_ANSWER_BAD_CHECKSUM, "Echo, 0 at Di");
+    sent(kawsarpa_translate_ipv6, packet, sizeof echo_to_di, &allowing, echo_from_di, sizeof echo_from_di, "Echo, 0 at Di that allows it");
+    packet[72] = 0x35;
+    refused(kawsarpa_translate_ipv6, packet, sizeof echo_to_di, &allowing, sizeof allowing, KAWSARPA_ANSWER_BAD_ECHO,
+            "Echo without S, 0 at Di that allows it");
+
+    memcpy(packet, echo_to_di, sizeof echo_to_di);
+    memcpy(reply, echo_from_di, sizeof reply);
+    kawsarpa_put16(packet + 80, 0x567D); /* the sequence number */
+    kawsarpa_put16(packet + 70, 0x91BA);
+    kawsarpa_put16(reply + 56, 0x567D);
+    kawsarpa_put16(reply + 46, 0xFFFF);
+    sent(kawsarpa_translate_ipv6, packet, sizeof echo_to_di, table, reply, sizeof reply, "Echo at Di, 0 computed in the reply");
 }
 
 static void check_refusals(const struct table *table)
@@ -306,6 +421,7 @@ static void check_refusals(const struct table *table)
     refused(kawsarpa_translate_ipv4, packet, sizeof to_d4, table, sizeof *table, KAWSARPA_ANSWER_UPPER_LAYER, "UDP port 2153 at D4");
     memcpy(packet, to_di, sizeof to_di);
     packet[61] = 0x1F;
+    kawsarpa_put16(packet + 46, 0x232A);
     refused(kawsarpa_translate_ipv6, packet, sizeof to_di, table, sizeof *table, KAWSARPA_ANSWER_BAD_CONTAINER,
             "uplink container at a Di entry for downlink");
 
@@ -315,9 +431,13 @@ static void check_refusals(const struct table *table)
     unsound.header.format = 2;
     refused(kawsarpa_translate_ipv6, to_d, sizeof to_d, &unsound, sizeof unsound, KAWSARPA_ANSWER_UNSOUND, "format 2");
     unsound = *table;
-    unsound.entries[E4].reserved = 1;
+    unsound.entries[E4].zero_checksum = 1;
     refused(kawsarpa_waypoint, from_di, sizeof from_di, &unsound, sizeof unsound, KAWSARPA_ANSWER_UNSOUND,
             "reserved octet 1 in another entry");
+    unsound = *table;
+    unsound.entries[DI].zero_checksum = 2;
+    refused(kawsarpa_translate_ipv6, to_d, sizeof to_d, &unsound, sizeof unsound, KAWSARPA_ANSWER_UNSOUND,
+            "zero_checksum 2 in another entry");
     unsound = *table;
     unsound.entries[WAYPOINT].hop_limit = 0;
     refused(kawsarpa_translate_ipv4, to_d4, sizeof to_d4, &unsound, sizeof unsound, KAWSARPA_ANSWER_UNSOUND,
@@ -363,6 +483,9 @@ int main(void)
     check_trip_ipv4(&table);
     check_d(&table);
     check_echo(&table);
+    check_arriving_checksums(&table);
+    check_computed_zero(&table);
+    check_echo_checksums(&table);
     check_refusals(&table);
     check_wrappers(&table);
     check(memcmp(&table, &as_built, sizeof table) == 0, "table", "no call changed it");

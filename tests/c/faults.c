@@ -134,10 +134,15 @@ static void check_entries(void)
     BREAKS(ENTRY, E4, P, t.entries[E4].p = 8);
     BREAKS(ENTRY, E4, Q, t.entries[E4].q = 13);
     BREAKS(ENTRY, E4, PREFIX_BEFORE_ADDRESS, t.entries[E4].p = 5);
-    BREAKS(ENTRY, WAYPOINT, RESERVED, t.entries[WAYPOINT].reserved = 1);
+    BREAKS(ENTRY, WAYPOINT, RESERVED, t.entries[WAYPOINT].zero_checksum = 1);
+    BREAKS(ENTRY, E6, RESERVED, t.entries[E6].zero_checksum = 1);
+    BREAKS(ENTRY, E4, RESERVED, t.entries[E4].zero_checksum = 255);
+    BREAKS(ENTRY, D, ZERO_CHECKSUM, t.entries[D].zero_checksum = 2);
+    BREAKS(ENTRY, DI, ZERO_CHECKSUM, t.entries[DI].zero_checksum = 255);
     BREAKS(ENTRY, DI, REPEATED, memcpy(t.entries[DI].prefix, d_prefix, sizeof d_prefix));
     BREAKS(ENTRY, E4, REPEATED, memcpy(t.entries[E4].prefix, waypoint_prefix, sizeof waypoint_prefix));
 
+    HARMLESS(t.entries[D].zero_checksum = KAWSARPA_ZERO_CHECKSUM_ALLOW; t.entries[DI].zero_checksum = KAWSARPA_ZERO_CHECKSUM_ALLOW);
     /* fields that a behaviour does not use */
     HARMLESS(t.entries[WAYPOINT].direction = 2; t.entries[WAYPOINT].policy = 9; t.entries[WAYPOINT].args_start = 1);
     HARMLESS(t.entries[D].args_start = 255; t.entries[D].p = 99; t.entries[E6].q = 99; t.entries[E4].policy = 9);
@@ -178,9 +183,12 @@ static void check_order(void)
     BREAKS(HEADER, 0, FORMAT, t.header.format = 0; t.header.policies[1] = 17; t.entries[0].hop_limit = 0);
     BREAKS(HEADER, 0, POLICIES, t.header.policies[1] = 17; t.entries[0].hop_limit = 0);
     BREAKS(HEADER, 0, SIZE, t.header.policies[1] = 1; t.entries[0].hop_limit = 0);
-    BREAKS(ENTRY, E4, P, t.entries[E4].p = 8; t.entries[E4].q = 13; t.entries[E4].reserved = 1);
-    BREAKS(ENTRY, D, RESERVED, t.entries[D].reserved = 1; t.entries[E4].behaviour = 0; t.rules[0].prefix_length = 33);
-    BREAKS(ENTRY, E4, RESERVED, memcpy(t.entries[D].prefix, waypoint_prefix, 6); t.entries[E4].reserved = 1);
+    BREAKS(ENTRY, E4, P, t.entries[E4].p = 8; t.entries[E4].q = 13; t.entries[E4].zero_checksum = 1);
+    BREAKS(ENTRY, WAYPOINT, RESERVED, t.entries[WAYPOINT].zero_checksum = 1; t.entries[D].zero_checksum = 2; t.entries[E4].behaviour = 0);
+    BREAKS(ENTRY, E4, RESERVED, memcpy(t.entries[D].prefix, waypoint_prefix, 6); t.entries[E4].zero_checksum = 1);
+    BREAKS(ENTRY, D, POLICY, t.entries[D].policy = 2; t.entries[D].zero_checksum = 2);
+    BREAKS(ENTRY, D, ZERO_CHECKSUM, t.entries[D].zero_checksum = 2; t.entries[E4].behaviour = 0; t.rules[0].prefix_length = 33);
+    BREAKS(ENTRY, DI, ZERO_CHECKSUM, memcpy(t.entries[D].prefix, waypoint_prefix, 6); t.entries[DI].zero_checksum = 2);
     BREAKS(ENTRY, D, REPEATED, memcpy(t.entries[D].prefix, waypoint_prefix, 6); memcpy(t.entries[DI].prefix, waypoint_prefix, 6));
     BREAKS(ENTRY, D, REPEATED, memcpy(t.entries[D].prefix, waypoint_prefix, 6); t.rules[0].prefix_length = 33);
     BREAKS(RULE, 0, RESERVED, t.rules[0].reserved = 1; t.rules[1].prefix_length = 33; t.policies[0].sid_count = 0);
@@ -192,7 +200,7 @@ static void check_order(void)
 static void check_names(void)
 {
     static const unsigned int conditions[] = {
-        0, KAWSARPA_FAULT_HEADER_SIZE, KAWSARPA_FAULT_ENTRY_REPEATED, KAWSARPA_FAULT_RULE_REPEATED, KAWSARPA_FAULT_POLICY_RESERVED, 0};
+        0, KAWSARPA_FAULT_HEADER_SIZE, KAWSARPA_FAULT_ENTRY_ZERO_CHECKSUM, KAWSARPA_FAULT_RULE_REPEATED, KAWSARPA_FAULT_POLICY_RESERVED, 0};
     unsigned int record, condition;
     int named = 1;
     for (record = 0; record < sizeof conditions / sizeof conditions[0]; record++)
@@ -203,7 +211,8 @@ static void check_names(void)
         }
     check(named, "kawsarpa_fault_name", "words for the conditions of each record and for no other number");
     check(strcmp(kawsarpa_fault_name(0), "sound") == 0 && strcmp(kawsarpa_fault_name((uint64_t)1 << 32 | 0x201), "unknown") == 0 &&
-              strcmp(kawsarpa_fault_name(0x207), "entry: no such policy") == 0,
+              strcmp(kawsarpa_fault_name(0x207), "entry: no such policy") == 0 &&
+              strcmp(kawsarpa_fault_name(0x20F), "entry: zero_checksum not 0 or 1") == 0,
           "kawsarpa_fault_name", "0 is sound, and bits past 31 are no fault");
 }
 

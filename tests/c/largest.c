@@ -3,6 +3,7 @@
  * Prints a line for each check.
  */
 #include "checks.h"
+#include "checksum.h"
 #include "kawsarpa.h"
 #include "packets.h"
 #include "table.h"
@@ -57,6 +58,7 @@ static size_t g_pdu6(const uint8_t *like, uint8_t direction, size_t inner)
 {
     const size_t length = head6(like, 17, 24 + inner);
     g_pdu(packet + 40, direction, inner);
+    kawsarpa_put16(packet + 46, udp_checksum(packet, length, 40));
     return length;
 }
 
@@ -102,6 +104,16 @@ static void sent(call_function *call, const struct table *table, size_t length, 
         check(0, subject, "within the constants");
 }
 
+/* By E6, with UDP's checksum over every octet. */
+static void sent_by_e6(const struct table *table, size_t length, size_t sent_length, const char *subject)
+{
+    size_t i;
+    for (i = 64; i < length; i++)
+        packet[i] = 0xFF;
+    sent(kawsarpa_call_ipv6, table, length, sent_length, subject);
+    check(kawsarpa_get16(out + 46) == udp_checksum(out, sent_length, 40), subject, "the UDP checksum is right");
+}
+
 static void too_long(call_function *call, const struct table *table, size_t length, const char *subject)
 {
     check(kawsarpa_answer_number(call(packet, length, (const uint8_t *)table, sizeof *table, out, sizeof out)) == KAWSARPA_ANSWER_TOO_LONG,
@@ -113,7 +125,7 @@ static void check_growth(const struct table *table)
     size_t length;
     sent(kawsarpa_call_ipv6, table, g_pdu6(to_d, KAWSARPA_DIRECTION_UPLINK, 0), 64 + 112, "D, 8 SIDs, nothing inside");
     sent(kawsarpa_call_ipv6, table, g_pdu6(to_di, KAWSARPA_DIRECTION_DOWNLINK, 0), 64 + 128, "Di, 8 SIDs, nothing inside");
-    sent(kawsarpa_call_ipv6, table, to_e6_with_one(0), 64, "E6, an SRH of one segment, nothing inside");
+    sent_by_e6(table, to_e6_with_one(0), 64, "E6, an SRH of one segment, nothing inside");
     sent(kawsarpa_call_ipv6, table, to_e4_without_srh(0), 40 + 4, "E4, no SRH, nothing inside");
     length = g_pdu4(0);
     sent(kawsarpa_call_ipv4, table, length, length + KAWSARPA_GROWTH_MAX, "D4, 7 waypoints, nothing inside");
@@ -129,7 +141,8 @@ static void check_longest(const struct table *table)
     too_long(kawsarpa_call_ipv6, table, g_pdu6(to_d, KAWSARPA_DIRECTION_UPLINK, 65400), "D, 8 SIDs");
     sent(kawsarpa_call_ipv6, table, g_pdu6(to_di, KAWSARPA_DIRECTION_DOWNLINK, 65383), KAWSARPA_OUT_MAX, "Di, 8 SIDs");
     too_long(kawsarpa_call_ipv6, table, g_pdu6(to_di, KAWSARPA_DIRECTION_DOWNLINK, 65384), "Di, 8 SIDs");
-    sent(kawsarpa_call_ipv6, table, to_e6_with_one(65511), KAWSARPA_OUT_MAX, "E6, an SRH of one segment");
+    sent_by_e6(table, to_e6_with_one(65511), KAWSARPA_OUT_MAX, "E6, an SRH of one segment");
+    sent_by_e6(table, to_e6_with_one(65510), KAWSARPA_OUT_MAX - 1, "E6, an SRH of one segment");
     sent(kawsarpa_call_ipv6, table, to_e4_without_srh(65491), 65535, "E4, no SRH");
     too_long(kawsarpa_call_ipv6, table, to_e4_without_srh(65492), "E4, no SRH");
 

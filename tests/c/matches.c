@@ -229,6 +229,11 @@ static void whole_tables(const struct table sound)
     uint8_t record = 0xFF;
     size_t index = SIZE_MAX;
     whole(&sound, &sound, 0, 0, 0, "a whole table");
+    other.entries[DI].zero_checksum = KAWSARPA_ZERO_CHECKSUM_ALLOW;
+    whole(&other, &sound, 0, 0, 0, "UDP checksum 0 allowed in the near table");
+    other.entries[DI].zero_checksum = 2;
+    whole(&other, &sound, KAWSARPA_MISMATCH_NEAR_UNSOUND, KAWSARPA_RECORD_HEADER, 0, "a near mark of 2");
+    other = sound;
     other.entries[E6].args_start = 72;
     whole(&sound, &other, KAWSARPA_MISMATCH_START, KAWSARPA_RECORD_ENTRY, DI, "Args at octet 9 against 8");
     other = sound;

@@ -1,7 +1,7 @@
 /*
  * Packets for the readers of losses.c, written out by hand from TS 29.281, 5.1, and the IP headers around it. All but the last carry
- * TEID 01020304 and sequence number ABCD with S. Each line of octets is a header, an address or what follows, so clang-format leaves
- * them alone.
+ * TEID 01020304 and sequence number ABCD with S. Their UDP checksums are wrong, which no reader verifies. Each line of octets is a header,
+ * an address or what follows, so clang-format leaves them alone.
  */
 #ifndef NUMBERED_H
 #define NUMBERED_H
@@ -22,7 +22,7 @@ static const uint8_t over_ipv6[66] = {
     /* from 2001:db8:77::9 to 2001:db8:a0::1 */
     0x20, 0x01, 0x0D, 0xB8, 0x00, 0x77, 0x00, 0x00, 0x00, 0x00, 0x00, 0x00, 0x00, 0x00, 0x00, 0x09,
     0x20, 0x01, 0x0D, 0xB8, 0x00, 0xA0, 0x00, 0x00, 0x00, 0x00, 0x00, 0x00, 0x00, 0x00, 0x00, 0x01,
-    /* UDP: ports 1234 and 2152, length 26, a checksum */
+    /* UDP: ports 1234 and 2152, length 26, a wrong checksum */
     0x04, 0xD2, 0x08, 0x68, 0x00, 0x1A, 0xBE, 0xEF,
     /* GTP-U: E and S, G-PDU, length 10, TEID, sequence number, N-PDU number 77, then a container */
     0x36, 0xFF, 0x00, 0x0A, 0x01, 0x02, 0x03, 0x04, 0xAB, 0xCD, 0x77, 0x85,

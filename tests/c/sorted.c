@@ -3,6 +3,7 @@
  * table that is not sound is left as it is. Prints a line for each check.
  */
 #include "checks.h"
+#include "checksum.h"
 #include "kawsarpa.h"
 #include "packets.h"
 #include "table.h"
@@ -20,8 +21,8 @@ struct full {
 
 /*
  * Waypoints under prefixes of every kind of neighbour: the same prefix with another length, and prefixes that differ in the first octet,
- * in the last, and in one above 127. Policies differ, and so do the entries that name them; the last octet of each record, which no call
- * examines, has its number.
+ * in the last, and in one above 127. Policies differ, and so do the entries that name them; some of D's allow a UDP checksum of 0. The last
+ * octet of each record, which no call examines, has its number.
  */
 static struct full build_full(void)
 {
@@ -34,6 +35,7 @@ static struct full build_full(void)
         struct kawsarpa_entry *entry = &full.entries[i];
         *entry = some.entries[i < ENTRIES ? i : i % 2]; /* past them a waypoint or D */
         entry->policy = (uint8_t)(i % KAWSARPA_POLICIES_MAX);
+        entry->zero_checksum = entry->behaviour == KAWSARPA_BEHAVIOUR_END_M_GTP6_D && i % 4 == 1;
         entry->spare48[15] = (uint8_t)i;
         if (i >= ENTRIES) {
             entry->hop_limit = (uint8_t)(i + 1);
@@ -142,6 +144,8 @@ static int same_answers(const struct full *one, const struct full *other)
             continue;
         memcpy(packet, waypoint ? from_di : to_d, waypoint ? sizeof from_di : sizeof to_d);
         under(packet + 24, entry->prefix, sizeof entry->prefix, entry->prefix_length);
+        if (!waypoint) /* 0 where it is allowed */
+            kawsarpa_put16(packet + 46, entry->zero_checksum != 0 ? 0 : udp_checksum(packet, sizeof to_d, 40));
         if (!same_answer(one, other, packet, waypoint ? sizeof from_di : sizeof to_d, 0))
             return 0;
     }
