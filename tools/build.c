@@ -148,6 +148,7 @@ TEXT_OF(args_octet)
 TEXT_OF(p)
 TEXT_OF(q)
 TEXT_OF(source_port)
+TEXT_OF(zero_checksum)
 
 static const struct field_use field_uses[] = {
     {"source", source_of, ALLOWED, NEEDED, NEEDED, ALLOWED},
@@ -158,6 +159,7 @@ static const struct field_use field_uses[] = {
     {"p", p_of, UNUSED, UNUSED, UNUSED, NEEDED},
     {"q", q_of, UNUSED, UNUSED, UNUSED, NEEDED},
     {"source-port", source_port_of, UNUSED, UNUSED, NEEDED, NEEDED},
+    {"zero-checksum", zero_checksum_of, UNUSED, ALLOWED, UNUSED, UNUSED},
 };
 
 static enum use use_by(const struct field_use *field, uint8_t behaviour)
@@ -236,6 +238,8 @@ static bool build_entry_uses(const struct work *work, const struct record_place 
         good = value_octet(place, "q", from->q, 0, Q_MOST, &entry->q) && good;
     if (from->source_port != NULL)
         good = value_number(place, "source-port", from->source_port, 0, UINT16_MAX, &port) && good;
+    if (from->zero_checksum != NULL)
+        good = value_word(place, "zero-checksum", from->zero_checksum, zero_checksums, &entry->zero_checksum) && good;
     if (good) {
         kawsarpa_entry_set_args_start_octets(entry, args_octet);
         kawsarpa_entry_set_source_port(entry, (uint16_t)port);

@@ -78,6 +78,8 @@ static void read_upper(struct packet_reading *reading, struct rest rest)
 {
     if (reading->next_header != NEXT_UDP || rest.length < UDP_HEADER)
         return;
+    reading->udp = rest.octets;
+    reading->udp_length = rest.length;
     if (get16(rest.octets + 2) == GTPU_PORT || is_echo_response(rest))
         read_gtpu(reading, behind(rest, UDP_HEADER));
 }

@@ -22,6 +22,9 @@ struct packet_reading {
     size_t segment_count;    /* whole segments that are there */
     const uint8_t *segments; /* as they stand: the last one of the path first */
 
+    const uint8_t *udp; /* its header and all behind it; NULL where there is none */
+    size_t udp_length;
+
     bool has_gtpu;
     unsigned int message_type;
     uint32_t teid;

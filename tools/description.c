@@ -52,6 +52,7 @@ static const cyaml_schema_field_t entry_fields[] = {
     TEXT("p", NOT_ALWAYS, entry, p),
     TEXT("q", NOT_ALWAYS, entry, q),
     TEXT("source-port", NOT_ALWAYS, entry, source_port),
+    TEXT("zero-checksum", NOT_ALWAYS, entry, zero_checksum),
     CYAML_FIELD_END,
 };
 

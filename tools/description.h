@@ -32,6 +32,7 @@ struct entry_description {
     char *p;
     char *q;
     char *source_port;
+    char *zero_checksum;
 };
 
 struct rule_description {

@@ -339,8 +339,8 @@ static const char words[] =
     "are told with what is wrong. A response that comes after the timeout is told as late; its request stays lost. What ICMP says of a "
     "request, such as that the port is closed, is told in its place.\n"
     "\n"
-    "The kernel writes the UDP checksum of what is sent. Over IPv6 a response with UDP checksum 0, as the gateway sends it, is received "
-    "too, which other programs do not do unless they ask for it.\n"
+    "The kernel writes the UDP checksum of what is sent, and drops a response with a wrong one, or over IPv6 with 0: nothing is told of "
+    "such a response, and its request is lost.\n"
     "\n"
     "Exit codes: 0 at least one Echo Response was received in time; 1 none was; 2 wrong usage; 3 the system failed: the name is unknown, "
     "there is no route, the source cannot be had, or what is printed cannot be written.";

@@ -5,7 +5,6 @@
 #include <linux/errqueue.h>
 #include <netdb.h>
 #include <netinet/in.h>
-#include <netinet/udp.h>
 #include <stdio.h>
 #include <stdlib.h>
 #include <string.h>
@@ -37,9 +36,7 @@ static bool set_options(int descriptor, int family)
     const int on = 1;
     if (family == AF_INET)
         return setsockopt(descriptor, IPPROTO_IP, IP_RECVERR, &on, sizeof on) == 0;
-    /* The gateway's Echo Response has UDP checksum 0, as GTP-U is a tunnel (RFC 6935), and by itself the kernel drops that over IPv6. */
-    return setsockopt(descriptor, IPPROTO_UDP, UDP_NO_CHECK6_RX, &on, sizeof on) == 0 &&
-           setsockopt(descriptor, IPPROTO_IPV6, IPV6_RECVERR, &on, sizeof on) == 0;
+    return setsockopt(descriptor, IPPROTO_IPV6, IPV6_RECVERR, &on, sizeof on) == 0;
 }
 
 /* A socket to an address, from a source where one is given. -1: errno says why, and `what` of what. */

@@ -103,6 +103,13 @@ bool fit_waypoint_fits(const struct fit_waypoint *waypoint)
     return waypoint->via != NULL && waypoint->mismatch == 0;
 }
 
+bool fit_zero_checksum(const struct fit_way *way, const struct fit_record *record)
+{
+    if (record->kind != KAWSARPA_RECORD_ENTRY || (fit_record_asked(record) && !fit_record_fits(way, record)))
+        return false;
+    return table_records(&way->near->table).entries[record->index].zero_checksum == KAWSARPA_ZERO_CHECKSUM_ALLOW;
+}
+
 bool fit_one_asked(const struct fit_way *way)
 {
     return way->in_order || way->via_count == 1;

@@ -130,6 +130,8 @@ static void json_record(struct json *json, const struct fit_way *way, const stru
 {
     json_object(json, NULL);
     stop_json_record(json, "near", way->near, (struct stop_record){record->kind, record->index});
+    if (fit_zero_checksum(way, record))
+        json_flag(json, "zero_checksum_allowed", true);
     json_flag(json, "checked", fit_record_asked(record));
     if (fit_record_asked(record)) {
         json_flag(json, "fits", fit_record_fits(way, record));

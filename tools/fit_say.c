@@ -136,13 +136,20 @@ static void say_waypoint_count(FILE *to, const struct fit_way *way, const struct
     fprintf(to, ": %u waypoint%s, but %zu --via table%s\n", count, count == 1 ? "" : "s", way->via_count, way->via_count == 1 ? "" : "s");
 }
 
+/* The end of a line about a record with which nothing is wrong. */
+static void say_end(FILE *to, const struct fit_way *way, const struct fit_record *record)
+{
+    fputs(fit_zero_checksum(way, record) ? "; the near entry allows UDP checksum 0\n" : "\n", to);
+}
+
 static void say_fits(FILE *to, const struct fit_way *way, const struct fit_record *record)
 {
     (fit_record_reaches(record) ? say_near_and_far : say_near)(to, way, record);
     fputs(record->waypoint_count == 0 ? ": fits, with no waypoint" : ": fits, via ", to);
     for (unsigned int i = 0; i < record->waypoint_count; i++)
         fprintf(to, "%s%s", i == 0 ? "" : ", ", record->waypoints[i].via->name);
-    fputs(record->has_far ? "\n" : "; End.M.GTP6.D has no far end in the tables, so only its waypoints are checked\n", to);
+    fputs(record->has_far ? "" : "; End.M.GTP6.D has no far end in the tables, so only its waypoints are checked", to);
+    say_end(to, way, record);
 }
 
 /* A line for each thing that does not fit. */
@@ -163,7 +170,8 @@ void fit_say_record(FILE *to, const struct fit_way *way, const struct fit_record
 {
     if (!fit_record_asked(record)) {
         say_near(to, way, record);
-        fputs(": nothing to check: no waypoint, and End.M.GTP6.D has no far end in the tables\n", to);
+        fputs(": nothing to check: no waypoint, and End.M.GTP6.D has no far end in the tables", to);
+        say_end(to, way, record);
     } else if (fit_record_fits(way, record))
         say_fits(to, way, record);
     else

@@ -5,10 +5,13 @@
 /* Without IPv4 options; of GTP-U the part that is always there, and what follows it where a flag is set. */
 enum { IPV4_HEADER = 20, IPV6_HEADER = 40, UDP_HEADER = 8, GTPU_HEADER = 8, GTPU_OPTIONAL = 4 };
 
-/* Where the destination address begins. */
-enum { IPV4_DESTINATION = 16, IPV6_DESTINATION = 24 };
+/* Where an address begins. */
+enum { IPV4_DESTINATION = 16, IPV6_SOURCE = 8, IPV6_DESTINATION = 24 };
 
 enum { NEXT_UDP = 17, GTPU_PORT = 2152 };
+
+/* Where the checksum stands. */
+enum { IPV4_CHECKSUM = 10, UDP_CHECKSUM = 6 };
 
 /* Flags of the first GTP-U octet: extensions follow, and the sequence number counts. */
 enum { GTPU_E = 4, GTPU_S = 2 };

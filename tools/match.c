@@ -203,6 +203,9 @@ static const char words[] =
     "A near table that sends nothing on has nothing to check: that is said, and counts as fitting. `kawsarpa explain --match NUMBER' says "
     "more of a condition.\n"
     "\n"
+    "Whether a near entry allows UDP checksum 0 is no matter, since what is sent has the true one; where it does, and fits, its line says "
+    "so.\n"
+    "\n"
     "Exit codes: 0 all fit, or there is nothing to check; 1 one does not fit, or a table is not sound; 2 wrong usage; 3 the system failed.";
 
 static const struct argp argp = {option_list, parse, "--near TABLE [--via TABLE]... --far TABLE", words, shared_options, NULL, NULL};

@@ -5,6 +5,7 @@
 #include <stdio.h>
 #include <string.h>
 
+#include "checksum.h"
 #include "formats.h"
 #include "octets.h"
 
@@ -14,20 +15,18 @@ enum { CONTAINER = 4, GTPU_FRONT = GTPU_HEADER + GTPU_OPTIONAL + CONTAINER };
 /* Before the inner octets, over IPv6 and over IPv4. */
 enum { FRONT6 = IPV6_HEADER + UDP_HEADER + GTPU_FRONT, FRONT4 = IPV4_HEADER + UDP_HEADER + GTPU_FRONT };
 
-enum { VERSION_4_NO_OPTIONS = 0x45, DONT_FRAGMENT = 0x4000, CHECKSUM4 = 10, VERSION_1_PT_E = 0x34 };
+enum { VERSION_4_NO_OPTIONS = 0x45, DONT_FRAGMENT = 0x4000, VERSION_1_PT_E = 0x34 };
 
-/* The sum of RFC 1071 over a header, whatever its checksum is. */
-static uint16_t checksum4(const uint8_t header[IPV4_HEADER])
+/* In a packet over IPv6. */
+enum { CHECKSUM6 = IPV6_HEADER + UDP_CHECKSUM };
+
+/* Of a whole packet. */
+static uint16_t checksum6(const uint8_t *packet, size_t length)
 {
-    uint32_t sum = 0;
-    for (size_t i = 0; i < IPV4_HEADER; i += 2)
-        sum += i == CHECKSUM4 ? 0U : get16(header + i);
-    while (sum > UINT16_MAX)
-        sum = (sum & UINT16_MAX) + (sum >> 16);
-    return (uint16_t)~sum;
+    return checksum_udp6(packet + IPV6_SOURCE, packet + IPV6_DESTINATION, packet + IPV6_HEADER, length - IPV6_HEADER);
 }
 
-/* Octets that are not written here stay 0: the flow label, the identification, the UDP checksum, sequence and N-PDU number. */
+/* Octets that are not written here stay 0: the flow label, the identification, over IPv4 the UDP checksum, sequence and N-PDU number. */
 
 static void put_ipv6(uint8_t *at, const struct packet_reading *in, const struct kawsarpa_entry *far, uint16_t length)
 {
@@ -35,8 +34,8 @@ static void put_ipv6(uint8_t *at, const struct packet_reading *in, const struct 
     put16(at + 4, length);
     at[6] = NEXT_UDP;
     at[7] = far->hop_limit;
-    memcpy(at + 8, far->source, 16);
-    memcpy(at + 24, in->destination, 16);
+    memcpy(at + IPV6_SOURCE, far->source, 16);
+    memcpy(at + IPV6_DESTINATION, in->destination, 16);
 }
 
 static void put_ipv4(uint8_t *at, const struct packet_reading *in, const struct kawsarpa_entry *far, uint16_t length)
@@ -48,8 +47,8 @@ static void put_ipv4(uint8_t *at, const struct packet_reading *in, const struct 
     at[8] = far->hop_limit;
     at[9] = NEXT_UDP;
     memcpy(at + 12, in->source, 4);
-    memcpy(at + 16, in->destination, 4);
-    put16(at + CHECKSUM4, checksum4(at));
+    memcpy(at + IPV4_DESTINATION, in->destination, 4);
+    put16(at + IPV4_CHECKSUM, checksum_ipv4(at));
 }
 
 static void put_udp(uint8_t *at, const struct kawsarpa_entry *far, uint16_t length)
@@ -100,6 +99,8 @@ bool promise_make(struct promise *promise, const struct packet_reading *in, cons
     (in->version == 4 ? put_ipv4 : put_ipv6)(promise->octets, in, far, payload);
     put_udp(promise->octets + header, far, payload);
     put_gtpu(promise->octets + header + UDP_HEADER, in);
+    if (in->version == 6)
+        put16(promise->octets + CHECKSUM6, checksum6(promise->octets, promise->length));
     return true;
 }
 
@@ -118,8 +119,14 @@ struct field {
 };
 
 static const struct field fields6[] = {
-    {"source", 8, 16, 0xFF, 0xFF}, {"destination", 24, 16, 0xFF, 0xFF}, {"TEID", 52, 4, 0xFF, 0xFF},         {"QFI", 62, 1, 0x3F, 0x3F},
-    {"R", 62, 1, 0x40, 0x40},      {"direction", 61, 1, 0xF0, 0xF0},    {"traffic class", 0, 2, 0x0F, 0xF0},
+    {"source", 8, 16, 0xFF, 0xFF},
+    {"destination", 24, 16, 0xFF, 0xFF},
+    {"TEID", 52, 4, 0xFF, 0xFF},
+    {"QFI", 62, 1, 0x3F, 0x3F},
+    {"R", 62, 1, 0x40, 0x40},
+    {"direction", 61, 1, 0xF0, 0xF0},
+    {"traffic class", 0, 2, 0x0F, 0xF0},
+    {"UDP checksum", CHECKSUM6, 2, 0xFF, 0xFF},
 };
 
 static const struct field fields4[] = {
@@ -130,7 +137,7 @@ static const struct field fields4[] = {
     {"R", 42, 1, 0x40, 0x40},
     {"direction", 41, 1, 0xF0, 0xF0},
     {"traffic class", 1, 1, 0xFF, 0xFF},
-    {"header checksum", CHECKSUM4, 2, 0xFF, 0xFF},
+    {"header checksum", IPV4_CHECKSUM, 2, 0xFF, 0xFF},
 };
 
 static const struct layout {
@@ -187,6 +194,12 @@ static void add_octets(struct differences *differences, const struct layout *lay
     }
 }
 
+/* Whether a packet over IPv6 is as long as it says, and its UDP checksum that of its own octets. */
+static bool right_checksum6(const uint8_t *packet, size_t length)
+{
+    return length >= FRONT6 && get16(packet + 4) == length - IPV6_HEADER && get16(packet + CHECKSUM6) == checksum6(packet, length);
+}
+
 void promise_differences(const struct promise *promise, const uint8_t *packet, size_t length, struct differences *differences)
 {
     const struct layout *layout = promise->octets[0] >> 4 == 4 ? &layout4 : &layout6;
@@ -196,9 +209,11 @@ void promise_differences(const struct promise *promise, const uint8_t *packet, s
     memcpy(front, packet, length < inner ? length : inner);
     for (size_t i = 0; i < inner; i++)
         differing[i] = front[i] ^ promise->octets[i];
-    /* with another value the checksum is another too: it is told where it is not that of its own header */
-    if (layout == &layout4 && get16(front + CHECKSUM4) == checksum4(front))
-        memset(differing + CHECKSUM4, 0, 2);
+    /* with another value the checksum is another too: it is told where it is not that of its own header, or of its own packet */
+    if (layout == &layout4 && get16(front + IPV4_CHECKSUM) == checksum_ipv4(front))
+        memset(differing + IPV4_CHECKSUM, 0, 2);
+    if (layout == &layout6 && right_checksum6(packet, length))
+        memset(differing + CHECKSUM6, 0, 2);
     add_fields(differences, layout, differing);
     if (length != promise->length || memcmp(packet + inner, promise->octets + inner, length - inner) != 0)
         differences_add(differences, "inner octets");

@@ -167,6 +167,8 @@ static void show_entry(struct description *description, unsigned int index, cons
         show_source(to, entry);
         show_session(to, entry);
         to->policy = text("policy-%u", entry->policy + 1U);
+        if (entry->zero_checksum != KAWSARPA_ZERO_CHECKSUM_REFUSE) /* which holds without a word */
+            to->zero_checksum = word_text(zero_checksums, entry->zero_checksum);
         break;
     }
 }

@@ -23,6 +23,10 @@ struct outcome stop_call(const struct stop *stop, unsigned int version, const ui
         outcome.sent_length = kawsarpa_answer_length(outcome.answer);
         outcome.echo_answered = kawsarpa_is_echo_response(out, outcome.sent_length) != 0;
     }
+    if (kawsarpa_answer_number(outcome.answer) == KAWSARPA_ANSWER_BAD_CHECKSUM) {
+        const struct packet_reading reading = packet_read(packet, length);
+        outcome.checksum = checksum_read(&reading);
+    }
     return outcome;
 }
 
@@ -133,10 +137,22 @@ void stop_free(struct stop *stop)
     stop->table.at = NULL;
 }
 
-static void say_refusal(FILE *to, uint64_t answer)
+static void say_checksum(FILE *to, const struct checksum_reading *checksum)
 {
+    if (checksum->fault == CHECKSUM_ZERO)
+        fputs(" (0, and the entry does not allow it)", to);
+    else
+        fprintf(to, " (0x%04x%s; 0x%04x is right)", checksum->held,
+                checksum->fault == CHECKSUM_UNFINISHED ? ", only the sum of the pseudo-header" : "", checksum->right);
+}
+
+static void say_refusal(FILE *to, const struct outcome *outcome)
+{
+    const uint64_t answer = outcome->answer;
     const unsigned int number = kawsarpa_answer_number(answer);
     fprintf(to, "refused, %u %s", number, kawsarpa_answer_name(number));
+    if (number == KAWSARPA_ANSWER_BAD_CHECKSUM)
+        say_checksum(to, &outcome->checksum);
     if (kawsarpa_answer_icmp_type(answer) != 0)
         fprintf(to, " (ICMPv6 type %u, code %u, pointer %u)", kawsarpa_answer_icmp_type(answer), kawsarpa_answer_icmp_code(answer),
                 kawsarpa_answer_icmp_pointer(answer));
@@ -145,15 +161,26 @@ static void say_refusal(FILE *to, uint64_t answer)
 void stop_say_outcome(FILE *to, const struct outcome *outcome)
 {
     if (outcome->sent == NULL) {
-        say_refusal(to, outcome->answer);
+        say_refusal(to, outcome);
         return;
     }
     fprintf(to, "%s: ", outcome->echo_answered ? echo_answered_words : kawsarpa_answer_name(KAWSARPA_ANSWER_SENT));
     packet_describe(to, outcome->sent, outcome->sent_length);
 }
 
-static void json_answer(struct json *json, uint64_t answer)
+static void json_checksum(struct json *json, const struct checksum_reading *checksum)
 {
+    static const char *const faults[] = {[CHECKSUM_ZERO] = "zero", [CHECKSUM_UNFINISHED] = "unfinished", [CHECKSUM_WRONG] = "wrong"};
+    json_object(json, "udp_checksum");
+    json_text(json, "fault", faults[checksum->fault]);
+    json_number(json, "held", checksum->held);
+    json_number(json, "right", checksum->right);
+    json_close(json);
+}
+
+static void json_answer(struct json *json, const struct outcome *outcome)
+{
+    const uint64_t answer = outcome->answer;
     const unsigned int number = kawsarpa_answer_number(answer);
     json_object(json, "answer");
     json_number(json, "number", number);
@@ -166,12 +193,14 @@ static void json_answer(struct json *json, uint64_t answer)
         json_number(json, "pointer", kawsarpa_answer_icmp_pointer(answer));
         json_close(json);
     }
+    if (number == KAWSARPA_ANSWER_BAD_CHECKSUM)
+        json_checksum(json, &outcome->checksum);
     json_close(json);
 }
 
 void stop_json_outcome(struct json *json, const struct outcome *outcome)
 {
-    json_answer(json, outcome->answer);
+    json_answer(json, outcome);
     if (outcome->sent == NULL)
         return;
     if (outcome->echo_answered)

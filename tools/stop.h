@@ -7,6 +7,7 @@
 #include <stdint.h>
 #include <stdio.h>
 
+#include "checksum.h"
 #include "file.h"
 #include "json.h"
 #include "kawsarpa.h"
@@ -29,7 +30,8 @@ struct outcome {
     uint64_t answer;
     const uint8_t *sent; /* NULL after a refusal */
     size_t sent_length;
-    bool echo_answered; /* the packet is an Echo Request, and what is sent the Echo Response; else it is sent on */
+    bool echo_answered;               /* the packet is an Echo Request, and what is sent the Echo Response; else it is sent on */
+    struct checksum_reading checksum; /* of the packet, where it was refused for it */
 };
 
 /* The library's call for a packet of this IP version; what is sent stands in out. */
@@ -51,7 +53,8 @@ bool stop_find(const struct stop *stop, unsigned int version, const uint8_t *pac
 void stop_say_record(FILE *to, const struct stop *stop, struct stop_record record);
 void stop_json_record(struct json *json, const char *name, const struct stop *stop, struct stop_record record);
 
-/* The answer in words, with its number and what an ICMPv6 message would say, where it is a refusal; else with what is sent. */
+/* The answer in words, where it is a refusal with its number, what an ICMPv6 message would say, and both UDP checksums; else with what is
+   sent. */
 void stop_say_outcome(FILE *to, const struct outcome *outcome);
 void stop_json_outcome(struct json *json, const struct outcome *outcome);
 

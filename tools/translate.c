@@ -33,7 +33,8 @@ struct run {
     bool as_json;
     bool quiet;
     unsigned long answers[UINT8_MAX + 1];
-    unsigned long echo_answered; /* not among the answers */
+    unsigned long echo_answered;                 /* not among the answers */
+    unsigned long checksums[CHECKSUM_WRONG + 1]; /* of what is refused with 18 */
     size_t longest_in;
     size_t longest_sent;
 };
@@ -109,6 +110,8 @@ static void count(struct run *run, const struct capture_packet *packet, const st
         return;
     }
     run->answers[kawsarpa_answer_number(outcome->answer)]++;
+    if (kawsarpa_answer_number(outcome->answer) == KAWSARPA_ANSWER_BAD_CHECKSUM)
+        run->checksums[outcome->checksum.fault]++;
     if (outcome->sent != NULL) {
         run->longest_in = larger(run->longest_in, packet->length);
         run->longest_sent = larger(run->longest_sent, outcome->sent_length);
@@ -153,6 +156,20 @@ static void say_count(struct run *run, unsigned long packets, unsigned int numbe
         fprintf(run->account, "%8lu  %2u %s\n", packets, number, words);
 }
 
+/* What may be no damage: checksums that are 0, and those that a network card had yet to finish. */
+static void say_checksums(struct run *run)
+{
+    const unsigned long zero = run->checksums[CHECKSUM_ZERO];
+    const unsigned long unfinished = run->checksums[CHECKSUM_UNFINISHED];
+    if (zero > 0)
+        fprintf(run->account, "%13s%lu of them %s 0, which the entry does not allow\n", "", zero, zero == 1 ? "is" : "are");
+    if (unfinished > 0)
+        fprintf(run->account,
+                "%13s%lu of them %s only the sum of the pseudo-header: a capture on the sending host, before its network card finished the "
+                "checksum\n",
+                "", unfinished, unfinished == 1 ? "holds" : "hold");
+}
+
 static void say_summary(struct run *run)
 {
     capture_say_counts(run->account, &run->reader.counts);
@@ -160,21 +177,28 @@ static void say_summary(struct run *run)
         say_count(run, run->answers[number], number, kawsarpa_answer_name(number));
         if (number == KAWSARPA_ANSWER_SENT)
             say_count(run, run->echo_answered, number, echo_answered_words);
+        if (number == KAWSARPA_ANSWER_BAD_CHECKSUM)
+            say_checksums(run);
     }
     if (run->longest_sent > 0)
         fprintf(run->account, "longest packet: %zu octets in, %zu sent\n", run->longest_in, run->longest_sent);
 }
 
-static void json_answers(struct json *json, const unsigned long answers[UINT8_MAX + 1])
+static void json_answers(struct run *run)
 {
+    struct json *json = &run->json;
     json_array(json, "answers");
     for (unsigned int number = 0; number <= UINT8_MAX; number++) {
-        if (answers[number] == 0)
+        if (run->answers[number] == 0)
             continue;
         json_object(json, NULL);
         json_number(json, "number", number);
         json_text(json, "name", kawsarpa_answer_name(number));
-        json_number(json, "packets", answers[number]);
+        json_number(json, "packets", run->answers[number]);
+        if (number == KAWSARPA_ANSWER_BAD_CHECKSUM) {
+            json_number(json, "zero", run->checksums[CHECKSUM_ZERO]);
+            json_number(json, "unfinished", run->checksums[CHECKSUM_UNFINISHED]);
+        }
         json_close(json);
     }
     json_close(json);
@@ -187,7 +211,7 @@ static void json_summary(struct run *run)
     if (run->trace)
         json_close(json);
     capture_json(json, &run->reader);
-    json_answers(json, run->answers);
+    json_answers(run);
     json_number(json, "echo_answered", run->echo_answered);
     if (run->longest_sent > 0) {
         json_object(json, "longest");
@@ -285,7 +309,10 @@ static const char words[] =
     "not IP or are snapped are left out and counted; padding of the link is cut off. TABLE, IN.pcap and OUT.pcap may be `-'; if OUT.pcap "
     "is, all else is printed on standard error. OUT.pcap may not be a file that is read. Of a capture that is cut at its end the packets "
     "before the cut are used."
-    "\vExit codes: 0 written; 1 the capture is bad or cut, or the table not sound; 2 wrong usage; 3 the system failed.";
+    "\vOf the packets that are refused for their UDP checksum it says how many have 0, and how many only the sum of the pseudo-header. "
+    "That is what a sending host leaves there for its network card to finish: on the wire such a packet is right.\n"
+    "\n"
+    "Exit codes: 0 written; 1 the capture is bad or cut, or the table not sound; 2 wrong usage; 3 the system failed.";
 
 static const struct argp argp = {option_list, parse, "--table TABLE IN.pcap OUT.pcap", words, shared_options, NULL, NULL};
 

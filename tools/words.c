@@ -29,6 +29,12 @@ const struct word session_types[] = {
     {0, NULL},
 };
 
+const struct word zero_checksums[] = {
+    {KAWSARPA_ZERO_CHECKSUM_REFUSE, "refuse"},
+    {KAWSARPA_ZERO_CHECKSUM_ALLOW, "allow"},
+    {0, NULL},
+};
+
 const struct word messages[] = {
     {G_PDU, "G-PDU"},
     {END_MARKER, "End Marker"},
@@ -150,6 +156,14 @@ static const struct answer_words answers[] = {
      "A base station, UPF or test program whose Echo Requests are not those of TS 29.281, which has S set and TEID 0. It gets no Echo "
      "Response, and takes the path for dead.",
      "Read the first GTP-U octet (32, S set) and the TEID in a capture. `kawsarpa echo ADDRESS' sends right ones; compare."},
+    {"At End.M.GTP6.D and End.M.GTP6.D.Di the UDP checksum is wrong, or it is 0 and the entry does not allow that; in the place between 9 "
+     "and 10. Over IPv4 it is not examined.",
+     NULL,
+     "In a capture that was taken on the sending host: checksum offload, harmless there. 0: a peer that computes no checksum, which IPv6 "
+     "allows only to tunnels that are set up for it (RFC 6935). Else the packet was damaged on the way, or changed by a box that did not "
+     "mend the checksum, such as an address translator.",
+     "`kawsarpa translate' counts these apart, and its trace has both checksums. Capture on the wire or at the receiver, or after "
+     "`ethtool -K DEVICE tx off' on the sender. For 0, have the peer write checksums, or set `zero-checksum: allow' in the entry."},
     [KAWSARPA_ANSWER_NO_ROW] =
     {"An offer of a sequence number: the TEID has no row, and no row is free. There are 256 at most.",
      NULL,
@@ -194,8 +208,15 @@ static const struct fault_words entry_faults[] = {
     {"q is over 12", "q octets and an IPv4 address make an address: q is 12 at the most.", NULL},
     {"the prefix has more than 8p bits", "The IPv4 destination stands behind p octets: shorten the prefix, or raise p at both ends.",
      "prefix"},
-    {"the reserved octet is not 0", "The table was made for another version of the library, or was damaged: compile it again.", NULL},
+    {"the reserved octet is not 0",
+     "The table was made for another version of the library, or was damaged: compile it again. Only End.M.GTP6.D and End.M.GTP6.D.Di use "
+     "this octet: in them it says whether UDP checksum 0 is allowed.",
+     NULL},
     {"an earlier entry has the same prefix and length", "Remove one of the two: the longest match has to be one entry.", "prefix"},
+    {"the mark for UDP checksum 0 is neither 0 nor 1",
+     "0 refuses such packets, 1 allows them. The table was made by another program, for another version of the library, or was damaged: "
+     "compile it again.",
+     NULL},
 };
 
 static const struct fault_words rule_faults[] = {
