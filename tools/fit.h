@@ -69,8 +69,8 @@ bool fit_one_asked(const struct fit_way *way);
 /* Whether a mismatch names an entry of the table that was asked. */
 bool fit_names_entry(uint64_t mismatch);
 
-/* Whether the record is an entry that allows UDP checksum 0, and nothing is wrong with it: no matter to the fit, since what is sent bears the
-   true one, but less than IPv6 asks for. */
+/* Whether the record is an entry that allows UDP checksum 0, and nothing is wrong with it: no matter to the fit, since what is sent bears
+   the true one, but less than IPv6 asks for. */
 bool fit_zero_checksum(const struct fit_way *way, const struct fit_record *record);
 
 /* What is told of a near entry with its policy, or of a near rule. */

@@ -100,13 +100,40 @@ def echo_response(number: int, port: int) -> bytes:
     return yard.udp(yard.GTPU_PORT, port, bytes.fromhex("32020006 00000000") + struct.pack(">H", number) + bytes.fromhex("0000 0e00"))
 
 
-def without_checksum(packet: bytes) -> bytes:
-    """An IPv6 packet whose UDP has no checksum."""
-    return packet[:46] + bytes(2) + packet[48:]
+def udp_at(packet: bytes) -> int:
+    """Where UDP begins in an IPv6 packet: behind an SRH, or the header."""
+    return 40 if packet[6] == yard.UDP else 48 + 8 * packet[41]
+
+
+def with_checksum(packet: bytes, check: int) -> bytes:
+    """An IPv6 packet with another UDP checksum."""
+    at = udp_at(packet) + 6
+    return packet[:at] + struct.pack(">H", check) + packet[at + 2:]
+
+
+def held_checksum(packet: bytes) -> int:
+    return struct.unpack_from(">H", packet, udp_at(packet) + 6)[0]
+
+
+def unfinished(packet: bytes) -> bytes:
+    """As a host leaves it to its network card: with the sum of the pseudo-header, not complemented."""
+    pseudo_header = packet[8:40] + struct.pack(">II", len(packet) - udp_at(packet), yard.UDP)
+    return with_checksum(packet, yard.checksum(pseudo_header) ^ 0xFFFF)
+
+
+def computed_zero() -> tuple[bytes, bytes]:
+    """A packet whose UDP checksum is computed as 0, so FFFF is right; and its inner packet."""
+    def made(last: int) -> tuple[bytes, bytes]:
+        inner = yard.to_carrier(b"lane 7: stop" + struct.pack(">H", last))
+        return yard.ipv6(yard.UPF6, yard.RADIO6, 0xB8, yard.g_pdu(yard.DOWNLINK, 5, 1, 0x01020304, inner)), inner
+
+    packet, inner = made(held_checksum(made(0)[0]))
+    assert held_checksum(packet) == 0xFFFF
+    return packet, inner
 
 
 def along(packet: bytes, segments_left: int, path: list[str]) -> bytes:
-    """An IPv6 packet of UDP with an SRH: the segments of a path, in order of travel."""
+    """An IPv6 packet of UDP with an SRH: the segments of a path, in order of travel. UDP's checksum stays: that for the last of them."""
     last = len(path) - 1
     srh = bytes([yard.UDP, 2 * len(path), 4, segments_left, last, 0, 0, 0]) + b"".join(ip_address(s).packed for s in reversed(path))
     destination = ip_address(path[last - segments_left]).packed
@@ -122,9 +149,9 @@ def echoes() -> tuple[list[Packet], list[Packet], list[Packet]]:
         along(yard.ipv6(yard.UPF6, yard.RADIO6, 0, echo_request(65535, 1, 5, elements)), 0, [yard.RADIO6]),
     ]
     responses = [
-        without_checksum(yard.ipv6(yard.RADIO6, yard.UPF6, 0xB8, echo_response(7, yard.GTPU_PORT))),
+        yard.ipv6(yard.RADIO6, yard.UPF6, 0xB8, echo_response(7, yard.GTPU_PORT)),
         yard.ipv4(yard.RADIO4, yard.UPF4, 0x20, echo_response(8, 40000)),
-        without_checksum(yard.ipv6(yard.RADIO6, yard.UPF6, 0, echo_response(65535, 1))),
+        yard.ipv6(yard.RADIO6, yard.UPF6, 0, echo_response(65535, 1)),
     ]
     refused = [
         yard.ipv6(yard.UPF6, yard.RADIO6, 0, yard.gtpu(yard.ECHO_REQUEST, 0)),
@@ -205,6 +232,19 @@ def main() -> None:
     write("echo-passed.pcap", pcap(RAW, [(0, passed)]))
     like = yard.g_pdu(yard.DOWNLINK, 5, 0, 1, bytes.fromhex("4500") + bytes(7) + b"\x02" + bytes(12))  # 22 octets inside, type 2's place
     write("echo-like.pcap", pcap(RAW, [(0, yard.ipv4(yard.UPF4, yard.RADIO4, 0, like))]))
+
+    # UDP checksums: right, 0, unfinished, wrong; of G-PDUs and Echo Requests; over IPv4, where they are not examined
+    echo, echoed = requests[0][1], responses[0][1]
+    zero, zero_inner = computed_zero()
+    write("checksums.pcap", pcap(RAW, [(time, packet) for time, packet in enumerate([
+        over6[1], with_checksum(over6[1], 0), with_checksum(last6[1], 0), with_checksum(echo, 0),
+        unfinished(over6[1]), unfinished(last6[1]), unfinished(requests[2][1]),
+        with_checksum(over6[1], held_checksum(over6[1]) ^ 1), with_checksum(echo, 0xFFFF),
+        zero, over4[1][:26] + b"\xbe\xef" + over4[1][28:]])]))
+    zero_sent = srv6("2001:db8:f::1", 0xB8, WAYPOINTS + ["2001:db8:b:1:1601:203:400:0", yard.RADIO6], zero_inner)
+    sent("checksums-sent.expected", [sent6, (9, zero_sent), (10, sent4[1])])
+    sent("checksums-allowed.expected", [sent6, (1, sent6[1]), (2, sent_last[1]), (3, echoed), (9, zero_sent), (10, sent4[1])])
+    write("checksums-two.pcap", pcap(RAW, [(0, with_checksum(over6[1], 0)), (1, unfinished(over6[1]))]))
 
     # what is counted and left out, or refused
     write("empty.pcap", pcap(ETHERNET, []))

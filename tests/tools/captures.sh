@@ -162,6 +162,44 @@ frames 3: IP packets 3, not IP 0, snapped 0; padding cut 0
        3   0 Echo Request answered
 END
 
+# UDP checksums over IPv6: what is refused is told with its cause, and an entry that allows 0 allows nothing else
+cause='refused, 18 bad UDP checksum'
+unfinished='only the sum of the pseudo-header: a capture on the sending host, before its network card finished the checksum'
+run 0 translate --table "$work/office" --trace "$work/checksums.pcap" "$work/out/sent.pcap"
+same out/sent.pcap checksums-sent.expected
+[ "$(grep -c "^  entry 2 End.M.GTP6.D.Di 2001:db8:77::/48: $cause (0, and the entry does not allow it)\$" "$work/stdout")" -eq 3 ] ||
+    fail "not three checksums of 0 are told"
+printed "  entry 2 End.M.GTP6.D.Di 2001:db8:77::/48: $cause (0x5ce4, only the sum of the pseudo-header; 0xc1b7 is right)"
+printed "  entry 2 End.M.GTP6.D.Di 2001:db8:77::/48: $cause (0xc1b6; 0xc1b7 is right)"
+printed "  entry 2 End.M.GTP6.D.Di 2001:db8:77::/48: $cause (0xffff; 0x6057 is right)"
+sed -i '1,/^frames/d' "$work/stdout"
+all_printed <<END
+       3   0 sent
+       8  18 bad UDP checksum
+             3 of them are 0, which the entry does not allow
+             3 of them hold $unfinished
+longest packet: 106 octets in, 154 sent
+END
+sed '/- name: downlink-ipv6 /,/^ *- /s/direction: .*/&\n    zero-checksum: allow/' "$yard/office.yaml" >"$work/allowing.yaml"
+run 0 compile "$work/allowing.yaml" -o "$work/allowing"
+run 0 translate --table "$work/allowing" "$work/checksums.pcap" "$work/out/sent.pcap"
+same out/sent.pcap checksums-allowed.expected
+all_printed <<END
+frames 11: IP packets 11, not IP 0, snapped 0; padding cut 0
+       5   0 sent
+       1   0 Echo Request answered
+       5  18 bad UDP checksum
+             3 of them hold $unfinished
+longest packet: 106 octets in, 154 sent
+END
+translate 0 checksums-two.pcap
+all_printed <<END
+frames 2: IP packets 2, not IP 0, snapped 0; padding cut 0
+       2  18 bad UDP checksum
+             1 of them is 0, which the entry does not allow
+             1 of them holds $unfinished
+END
+
 run 0 translate --table "$work/nested" "$work/echo-like.pcap" "$work/out/sent.pcap"
 all_printed <<'END'
 frames 1: IP packets 1, not IP 0, snapped 0; padding cut 0
@@ -186,6 +224,11 @@ printed "3 of 3 packets arrived, 3 of them with the destination, TEID, QFI, R, t
 run 0 trip "${uplink[@]}" "$work/uplink.pcap"
 printed "2 of 2 packets arrived, 2 of them with the destination, TEID, QFI, R, traffic class and inner octets that went in"
 run 0 trip "${downlink[@]}" "$work/empty.pcap"
+run 1 trip "${downlink[@]}" "$work/checksums.pcap"
+printed "  near: $cause (0x5ce4, only the sum of the pseudo-header; 0xc1b7 is right)"
+printed "3 of 11 packets arrived, 3 of them with the destination, TEID, QFI, R, traffic class and inner octets that went in"
+run 1 trip --near "$work/allowing" "${downlink[@]:2}" "$work/checksums.pcap"
+printed "5 of 10 other packets arrived, 5 of them with the destination, TEID, QFI, R, traffic class and inner octets that went in"
 
 # the trip of an Echo Request ends where it is answered, and is no fault; at the near gateway, or behind a waypoint
 run 0 trip "${downlink[@]}" "$work/echo-good.pcap" -o "$work/out/arrived.pcap"
@@ -368,7 +411,7 @@ run 0 trip "${uplink[@]}" --quiet "$work/uplink.pcap"
 nothing_printed
 
 # the field guide tells each answer, under its name
-for number in {0..17} 25 26; do
+for number in {0..18} 25 26; do
     name=$("$tool" explain "$number" | sed -n "s/^$number: //p")
     grep -qF -e "- **$number $name**: " -e "| $number $name |" "$here/../../docs/FIELD-GUIDE.md" ||
         fail "not in the field guide: $number $name"
@@ -391,7 +434,8 @@ format: 1
 policies:
 - {name: p, last-sid: "::", args-octet: 0}
 entries:
-- {name: e, behaviour: End.M.GTP6.D, prefix: "::/0", hop-limit: 1, source: "::", direction: uplink, session-type: IPv4, policy: p}
+- {name: e, behaviour: End.M.GTP6.D, prefix: "::/0", hop-limit: 1, source: "::", direction: uplink, session-type: IPv4, policy: p,
+   zero-checksum: allow}
 rules:
 - {name: r, prefix: 0.0.0.0/0, hop-limit: 1, direction: uplink, session-type: IPv4, p: 0, q: 0, sid-prefix: "::", source-prefix: "::"}
 END

@@ -11,6 +11,7 @@ import sys
 
 BEHAVIOURS = {"End": 1, "End.M.GTP6.D": 69, "End.M.GTP6.D.Di": 70, "End.M.GTP6.E": 71, "End.M.GTP4.E": 72}
 DIRECTIONS = {"downlink": 0, "uplink": 1}
+ZERO_CHECKSUMS = {"refuse": 0, "allow": 1}
 SESSION_TYPES = {"IPv4": 1, "IPv6": 2, "IPv4v6": 3, "Ethernet": 5}
 
 
@@ -89,7 +90,7 @@ class Description:
         kinds = [k for k in BEHAVIOURS if self.policy_names or not k.startswith("End.M.GTP6.D")]
         kind = draw.choice(kinds)
         hop_limit = draw.choice([1, 255, draw.randint(1, 255)])
-        session = policy = args = p = q = port = 0
+        policy = args = p = q = mark = port = 0
         most = 128
         fields = []
         direction = session_type = 0
@@ -98,6 +99,10 @@ class Description:
         if kind.startswith("End.M.GTP6.D"):
             policy = draw.randrange(len(self.policy_names))
             fields.append(("policy", self.policy_names[policy]))
+            if draw.random() < 0.7:
+                word = draw.choice(list(ZERO_CHECKSUMS))
+                mark = ZERO_CHECKSUMS[word]
+                fields.append(("zero-checksum", word))
         if kind == "End.M.GTP6.E":
             a = draw.randint(0, 11)
             args, most = 8 * a, 8 * a
@@ -115,7 +120,7 @@ class Description:
             fields.append(("source", f'"{source}"'))
         number, length = prefix(draw, 128, most)
         text = f'"{ipaddress.IPv6Address(number)}/{length}"'
-        record = bytes([BEHAVIOURS[kind], length, hop_limit, direction, session_type, policy, args, p, q, session]) + \
+        record = bytes([BEHAVIOURS[kind], length, hop_limit, direction, session_type, policy, args, p, q, mark]) + \
             octets(port, 2) + bytes(4) + octets(number) + octets(source) + bytes(16)
         return record, [("name", f"entry-{i}"), ("behaviour", kind), ("prefix", text), ("hop-limit", hop_limit), *fields]
 

@@ -63,7 +63,7 @@ if ! "$python" -c 'import socket; socket.socket(socket.AF_INET6).bind(("::1", 0)
     addresses=(127.0.0.1)
 fi
 
-### a peer that answers; over IPv6 with UDP checksum 0
+### a peer that answers
 
 for address in "${addresses[@]}"; do
     start "$address" good
@@ -106,6 +106,21 @@ no Echo Response to sequence number 2 within 0.1 s
 Echo Requests sent 2, Echo Responses received 0, lost 2 (100.0 %)
 END
 done
+
+### UDP checksum 0 over IPv6 (RFC 8200, 8.1): the kernel drops such an Echo Response, as it would any receiver's
+
+if [ "${addresses[*]: -1}" = ::1 ]; then
+    start ::1 zero good
+    told 0 -c 2 -i 0.01 -W 0.1 ::1
+    all_printed <<END
+Echo Requests to ::1 port $port, from ::1 port P
+Echo Response from ::1: sequence number 2, Recovery 0, T ms
+no Echo Response to sequence number 1 within 0.1 s
+--- ::1 port $port
+Echo Requests sent 2, Echo Responses received 1, lost 1 (50.0 %)
+time min/avg/max T/T/T ms
+END
+fi
 
 ### late, twice, and once more later
 

@@ -130,6 +130,18 @@ def packet(members: Members) -> str:
         return f"{line}, {octets} octets"
 
 
+def checksum(members: Members) -> str:
+    with members as m:
+        cause, held, right = m.text("fault"), m.number("held"), m.number("right")
+        if cause == "zero":
+            expect(held, 0, "held")
+            return " (0, and the entry does not allow it)"
+        causes = {"unfinished": ", only the sum of the pseudo-header", "wrong": ""}
+        if held in (0, right) or cause not in causes:
+            fail(f"udp_checksum: {cause}, {held}, {right}")
+        return f" (0x{held:04x}{causes[cause]}; 0x{right:04x} is right)"
+
+
 def answer(members: Members) -> tuple[bool, str]:
     """Whether it is sent, and the words."""
     with members as m:
@@ -139,6 +151,8 @@ def answer(members: Members) -> tuple[bool, str]:
         if "icmp" in m.left:
             with m.object("icmp") as icmp:
                 line += f" (ICMPv6 type {icmp.number('type')}, code {icmp.number('code')}, pointer {icmp.number('pointer')})"
+        if number == 18:
+            line += checksum(m.object("udp_checksum"))
         return number == 0, line
 
 
@@ -292,9 +306,10 @@ def fitting(members: Members, vias: list[str]) -> tuple[bool, bool, bool, str]:
     with members as m:
         near = "  " + record(m.object("near"))
         alone = " End.M.GTP6.D " in near
+        end = "; the near entry allows UDP checksum 0" if m.may("zero_checksum_allowed", bool) else ""
         if not m.flag("checked"):
             expect(alone, True, "a record that is not checked")
-            return False, False, False, f"{near}: nothing to check: no waypoint, and End.M.GTP6.D has no far end in the tables\n"
+            return False, False, False, f"{near}: nothing to check: no waypoint, and End.M.GTP6.D has no far end in the tables{end}\n"
         fits, far = m.flag("fits"), record(m.object("far")) if "far" in m.left else None
         expect(m.flag("waypoints_only"), alone, "waypoints_only")
         reached = near if far is None else f"{near} -> far {far}"
@@ -309,9 +324,11 @@ def fitting(members: Members, vias: list[str]) -> tuple[bool, bool, bool, str]:
             expect(via_count, len(vias), "via_count")
             faults += [f"{near}: {plural(count, 'waypoint', 'waypoints')}, but {plural(via_count, '--via table', '--via tables')}"]
         expect(fits, not faults, "fits")
+        if end and (not fits or "End.M.GTP6.D" not in near):
+            fail("zero_checksum_allowed of a record that does not fit, or is no such entry")
         line = f"{reached}: fits, " + ("via " + ", ".join(tables) if count else "with no waypoint")
         line += "; End.M.GTP6.D has no far end in the tables, so only its waypoints are checked" if alone else ""
-        return True, fits, alone, "\n".join(faults or [line]) + "\n"
+        return True, fits, alone, "\n".join(faults or [line + end]) + "\n"
 
 
 def way(members: Members, near: str, vias: list[str], far: str, all_records: bool) -> tuple[list[int], str]:
@@ -346,6 +363,16 @@ def match(m: Members, options: dict[str, list[str]], _: str) -> str:
     return text + "\n"
 
 
+def checksums(m: Members) -> str:
+    """Of the packets that are refused with 18."""
+    zero, unfinished = m.number("zero"), m.number("unfinished")
+    text = f"{'':13}{zero} of them {'is' if zero == 1 else 'are'} 0, which the entry does not allow\n" if zero else ""
+    if unfinished:
+        text += f"{'':13}{unfinished} of them {'holds' if unfinished == 1 else 'hold'} only the sum of the pseudo-header: a capture on " \
+                "the sending host, before its network card finished the checksum\n"
+    return text
+
+
 def translate(m: Members, options: dict[str, list[str]], _: str) -> str:
     expect(m.text("table"), shown(options["--table"][-1]), "table")
     text = ""
@@ -358,13 +385,14 @@ def translate(m: Members, options: dict[str, list[str]], _: str) -> str:
         return text
     lines, packets, _ = capture(m, options[""][0])
     text += lines
-    counts = []
+    counts, causes = [], ""
     for each in m.objects("answers"):
         with each as a:
             counts.append((a.number("number"), a.text("name"), a.number("packets")))
+            causes += checksums(a) if counts[-1][0] == 18 else ""
     echoes = m.number("echo_answered")
     counts.insert(sum(number == 0 for number, _, _ in counts), (0, ECHO_ANSWERED, echoes))
-    text += "".join(f"{count:8}  {number:2} {name}\n" for number, name, count in counts if count)
+    text += "".join(f"{count:8}  {number:2} {name}\n" for number, name, count in counts if count) + causes  # 18 is the last
     expect(sum(count for _, _, count in counts), packets, "packets with an answer")
     if "longest" in m.left:
         with m.object("longest") as longest:

@@ -5,7 +5,7 @@ import sys
 from ipaddress import ip_address
 from pathlib import Path
 
-from captures import ETHERNET, RAW, Packet, over, pcap, same, tagged, yard
+from captures import ETHERNET, RAW, Packet, held_checksum, over, pcap, same, tagged, unfinished, with_checksum, yard
 
 TCP, ROUTING, ICMPV6 = 6, 43, 58
 HOP_BY_HOP, FRAGMENT, DESTINATION_OPTIONS = 0, 44, 60
@@ -97,6 +97,11 @@ def reasons() -> list[bytes]:
     return frames + [wrong_version, request]
 
 
+def over_udp6(frame: bytes) -> bool:
+    """Whether a frame has IPv6 with UDP, perhaps behind an SRH."""
+    return frame[12:14] == b"\x86\xdd" and (frame[20] == yard.UDP or frame[20] == ROUTING and frame[54] == yard.UDP and frame[56] == 4)
+
+
 def main() -> None:
     if len(sys.argv) != 2:
         sys.exit("usage: loss.py DIRECTORY")
@@ -113,6 +118,19 @@ def main() -> None:
     write("streams.pcap", pcap(RAW, times(streams())))
     snapped = pcap(ETHERNET, times([tagged(over6(g_pdu(9, 3)))]), cut=1)
     write("reasons.pcap", pcap(ETHERNET, times(reasons())) + snapped[24:])
+
+    # the same with other UDP checksums over IPv6
+    others = {
+        "zero": lambda packet: with_checksum(packet, 0),
+        "unfinished": unfinished,
+        "wrong": lambda packet: with_checksum(packet, held_checksum(packet) ^ 0x8000),
+    }
+    for name, other in others.items():
+        def checked(frame: bytes) -> bytes:
+            return frame[:14] + other(frame[14:]) if over_udp6(frame) else frame
+
+        write(f"reasons-{name}.pcap", pcap(ETHERNET, times([checked(frame) for frame in reasons()])) + snapped[24:])
+        write(f"numbered-{name}.pcap", pcap(ETHERNET, times([checked(frame) for frame in yard.numbered()])))
 
     # both directions under one TEID
     up, down = [5000, 5001, 5002], [1, 2, 3]

@@ -101,6 +101,16 @@ all_complained <<END
 kawsarpa: $work/reasons.pcap: packet 39 is snapped, 109 octets of 110: it is left out
 END
 
+# UDP checksums are not examined: 0, a wrong one, or what a network card has yet to finish
+cp "$work/stdout" "$work/reasons"
+for other in zero unfinished wrong; do
+    run 0 loss "$work/reasons-$other.pcap"
+    same stdout reasons
+    run 0 loss "$work/numbered-$other.pcap"
+    same stdout numbered
+    ! cmp -s "$work/numbered-$other.pcap" "$work/numbered.pcap" || fail "no checksum is another: $other"
+done
+
 # an Echo Request is no G-PDU here, whether it would be answered or refused
 run 0 loss "$work/echo.pcap"
 printed "not counted 9 of 9 IP packets:"

@@ -30,8 +30,15 @@ def udp(port: int, payload: bytes) -> bytes:
     return struct.pack(">HHHH", port, 2152, 8 + len(payload), 0) + payload
 
 
+def checked(source: bytes, destination: bytes, datagram: bytes) -> bytes:
+    """With its UDP checksum over IPv6 (RFC 8200, 8.1), in the place of a 0."""
+    check = yard.checksum(source + destination + struct.pack(">II", len(datagram), 17) + datagram)
+    return datagram[:6] + struct.pack(">H", check or 0xFFFF) + datagram[8:]
+
+
 def over_ipv6(traffic_class: int, hop_limit: int, source: bytes, destination: bytes, payload: bytes) -> bytes:
-    return struct.pack(">IHBB", 6 << 28 | traffic_class << 20, len(payload), 17, hop_limit) + source + destination + payload
+    front = struct.pack(">IHBB", 6 << 28 | traffic_class << 20, len(payload), 17, hop_limit)
+    return front + source + destination + checked(source, destination, payload)
 
 
 def over_ipv4(tos: int, ttl: int, source: bytes, destination: bytes, payload: bytes) -> bytes:
@@ -55,6 +62,7 @@ def bit_names(version: int, inner: int) -> list[str]:
         call("traffic class", 4, 8)
         call("source", 8 * 8, 128)
         call("destination", 24 * 8, 128)
+        call("UDP checksum", 46 * 8, 16)
     else:
         call("traffic class", 8, 8)
         call("header checksum", 10 * 8, 16)
@@ -77,8 +85,8 @@ def flipped(directory: Path, version: int) -> None:
     lines += [CHANGED + "inner octets"] * 2
     ip = f"IPv{version} header"
     if version == 6:  # with 30 octets, and with none; octets that are 0 in the promised packet too are not told
-        missing = ["destination", "TEID", "QFI", "R", "inner octets"]
-        none = ["source", *missing[:4], "traffic class", "inner octets", *(f"octet {at} of the {ip}" for at in (0, 5, 6, 7))]
+        missing = ["destination", "TEID", "QFI", "R", "UDP checksum", "inner octets"]
+        none = ["source", *missing[:4], "traffic class", "UDP checksum", "inner octets", *(f"octet {at} of the {ip}" for at in (0, 5, 6, 7))]
     else:
         missing = ["TEID", "QFI", "R", "inner octets"]
         none = ["source", "destination", *missing[:3], "traffic class", "header checksum", "inner octets",
@@ -103,9 +111,10 @@ def arriving_gtpu(draw: random.Random, direction: int, qfi: int, reflective: int
     return struct.pack(">BBHI", flags, 255, 4 + len(container) + len(inner), teid) + numbers + b"\x85" + container + inner
 
 
-def arriving_ipv6(draw: random.Random, traffic_class: int, source: bytes, destination: bytes, payload: bytes) -> bytes:
-    """With a flow label, any checksum, and now and then a routing header that has been used up."""
-    datagram = struct.pack(">HHHH", draw.randrange(65536), 2152, 8 + len(payload), draw.randrange(65536)) + payload
+def arriving_ipv6(draw: random.Random, traffic_class: int, source: bytes, destination: bytes, payload: bytes, zero: bool) -> bytes:
+    """With a flow label, UDP checksum 0 or the right one, and now and then a routing header that has been used up."""
+    datagram = udp(draw.randrange(65536), payload)
+    datagram = datagram if zero else checked(source, destination, datagram)
     next_header, chain = 17, b""
     if draw.randrange(4) == 0 and len(payload) < 60000:
         next_header, chain = 43, bytes([17, 2, 4, 0, 0, 0, 0, 0]) + draw.randbytes(16)
@@ -137,6 +146,7 @@ def write_set(directory: Path, number: int) -> None:
     session = ["IPv4", "IPv6", "IPv4v6", "Ethernet"][number // 2 % 4]
     hop_limit, port = draw.choice([1, 2, 255, draw.randrange(1, 256)]), draw.choice([0, 65535, 2152, draw.randrange(65536)])
     source, args, p, q = draw.randbytes(16), draw.randrange(6, 12), draw.choice([6, 7]), draw.randrange(6, 13)
+    allowing = number % 3 == 0  # UDP checksum 0, in what arrives
     shared = f"direction: {['downlink', 'uplink'][direction]}, session-type: {session}"
     (directory / f"near{number}.yaml").write_text(f"""format: 1
 waypoints:
@@ -144,7 +154,8 @@ waypoints:
 policies:
 - {{name: p, waypoints: [w], last-sid: "2001:db8:b::", args-octet: {args}}}
 entries:
-- {{name: e, behaviour: End.M.GTP6.D.Di, prefix: "::/0", hop-limit: {draw.randrange(2, 256)}, source: "2001:db8:f::1", {shared}, policy: p}}
+- {{name: e, behaviour: End.M.GTP6.D.Di, prefix: "::/0", hop-limit: {draw.randrange(2, 256)}, source: "2001:db8:f::1", {shared}, policy: p,
+   zero-checksum: {"allow" if allowing else "refuse"}}}
 rules:
 - {{name: r, prefix: 0.0.0.0/0, hop-limit: {draw.randrange(2, 256)}, {shared}, p: {p}, q: {q}, sid-prefix: "2001:db8:c::",
    source-prefix: "2001:db8:d::", waypoints: [w]}}
@@ -167,7 +178,8 @@ entries:
         promised = udp(port, gtpu_front(direction, qfi, reflective, teid, inner) + inner)
         if version == 6:
             destination = draw.randbytes(16)
-            went_in.append((time, arriving_ipv6(draw, traffic_class, draw.randbytes(16), destination, gtpu)))
+            zero = allowing and draw.randrange(2) == 0
+            went_in.append((time, arriving_ipv6(draw, traffic_class, draw.randbytes(16), destination, gtpu, zero)))
             comes_out.append((time, over_ipv6(traffic_class, hop_limit, source, destination, promised)))
         else:
             ends = draw.randbytes(4), draw.randbytes(4)

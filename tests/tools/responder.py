@@ -1,7 +1,5 @@
 """responder.py ADDRESS FILE BEHAVIOUR...: answers Echo Requests for echo.sh, each by the next of the behaviours, and from the last on again
 by the first. The port is one that is free, and is written into FILE. A request with other octets than it should have is not answered.
-
-Over IPv6 what is sent has UDP checksum 0, as the gateway sends it.
 """
 
 import heapq
@@ -26,6 +24,7 @@ def responses(behaviour: str, number: int) -> list[tuple[float, bytes]]:
     good = message(number)
     once = {
         "good": good,
+        "zero": good,  # with UDP checksum 0
         "recovery": message(number, rest="0000 0e09"),
         "no-recovery": message(number, rest="0000"),
         "private": message(number, rest="0000 ff0003abcdef 0e05"),      # a Private Extension first
@@ -59,13 +58,11 @@ def main() -> None:
     family = socket.AF_INET6 if ":" in address else socket.AF_INET
     ends = [socket.socket(family, socket.SOCK_DGRAM) for _ in range(2)]
     for end in ends:
-        if family == socket.AF_INET6:
-            end.setsockopt(socket.IPPROTO_UDP, UDP_NO_CHECK6_TX, 1)
         end.bind((address, 0))
     port, elsewhere = ends
     Path(file + ".new").write_text(f"{port.getsockname()[1]}\n", encoding="ascii")
     Path(file + ".new").rename(file)
-    due: list[tuple[float, int, bytes, object]] = []
+    due: list[tuple[float, int, str, bytes, object]] = []
     requests = sent = 0
     while True:
         wait = max(0, due[0][0] - time.monotonic()) if due else None
@@ -80,10 +77,12 @@ def main() -> None:
             if behaviour == "elsewhere":
                 elsewhere.sendto(message(number), source)
             for delay, response in responses(behaviour, number):
-                heapq.heappush(due, (time.monotonic() + delay, sent, response, source))
+                heapq.heappush(due, (time.monotonic() + delay, sent, behaviour, response, source))
                 sent += 1
         while due and due[0][0] <= time.monotonic():
-            _, _, response, source = heapq.heappop(due)
+            _, _, behaviour, response, source = heapq.heappop(due)
+            if family == socket.AF_INET6:
+                port.setsockopt(socket.IPPROTO_UDP, UDP_NO_CHECK6_TX, behaviour == "zero")
             port.sendto(response, source)
 
 

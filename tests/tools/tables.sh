@@ -185,6 +185,9 @@ d='name: a, behaviour: End.M.GTP6.D, prefix: "::/0", hop-limit: 1, source: "::1"
 refuse ':7: entry "a": "x" is not the name of a policy' "format: 1\n$waypoint${policy}entries:\n- {$d, direction: uplink, policy: x}\n"
 refuse ':7: entry "a": direction is "up", not downlink or uplink' \
     "format: 1\n$waypoint${policy}entries:\n- {$d, direction: up, policy: p}\n"
+refuse ':7: entry "a": zero-checksum is "yes", not refuse or allow' \
+    "format: 1\n$waypoint${policy}entries:\n- {$d, direction: uplink, policy: p, zero-checksum: yes}\n"
+refuse ':3: entry "a": End uses no zero-checksum' "format: 1\nentries:\n- {$end, zero-checksum: allow}\n"
 refuse ':3: policy "p": "w" is not the name of a waypoint' "format: 1\n$policy"
 refuse ':3: policy "p": args-octet is "12", not a number from 0 to 11' \
     'format: 1\npolicies:\n- {name: p, last-sid: "::", args-octet: 12}\n'
@@ -194,10 +197,14 @@ refuse ':3: waypoint "a b": a name is 1 to 63' 'format: 1\nwaypoints:\n- {name: 
 refuse ':3: waypoint "?[31m": a name is 1 to 63' 'format: 1\nwaypoints:\n- {name: "\\e[31m", address: "::1"}\n'
 e6='name: a, behaviour: End.M.GTP6.E, hop-limit: 1, source: "::1", direction: uplink, session-type: IPv4, source-port: 1'
 refuse ':3: entry "a": not sound: the prefix reaches into Args' "format: 1\nentries:\n- {$e6, prefix: \"::/64\", args-octet: 7}\n"
+refuse ':3: entry "a": End.M.GTP6.E uses no zero-checksum' \
+    "format: 1\nentries:\n- {$e6, prefix: \"::/64\", args-octet: 8, zero-checksum: allow}\n"
 refuse ':3: entry "a": source-port is "65536", not a number from 0 to 65535' \
     "format: 1\nentries:\n- {${e6/source-port: 1/source-port: 65536}, prefix: \"::/64\", args-octet: 8}\n"
 e4='name: a, behaviour: End.M.GTP4.E, hop-limit: 1, direction: uplink, session-type: IPv4, source-port: 1'
 refuse ':3: entry "a": not sound: the prefix has more than 8p bits' "format: 1\nentries:\n- {$e4, prefix: \"::/49\", p: 6, q: 8}\n"
+refuse ':3: entry "a": End.M.GTP4.E uses no zero-checksum' \
+    "format: 1\nentries:\n- {$e4, prefix: \"::/48\", p: 6, q: 8, zero-checksum: refuse}\n"
 refuse ':3: entry "a": p is "8", not a number from 0 to 7' "format: 1\nentries:\n- {$e4, prefix: \"::/49\", p: 8, q: 8}\n"
 refuse ':3: entry "a": q is "13", not a number from 0 to 12' "format: 1\nentries:\n- {$e4, prefix: \"::/49\", p: 7, q: 13}\n"
 rule='hop-limit: 1, direction: uplink, session-type: IPv4, p: 6, q: 8'
@@ -207,6 +214,8 @@ refuse ':3: rule "r": not sound: bits past 8q of the source prefix are not 0' \
     "format: 1\nrules:\n- {name: r, prefix: 0.0.0.0/0, $rule, sid-prefix: \"::\", source-prefix: \"::1\"}\n"
 prefixes='sid-prefix: "::", source-prefix: "::"'
 refuse ':3: rule "r": prefix is "10.0.0.0/33", not an IPv4 prefix' "format: 1\nrules:\n- {name: r, prefix: 10.0.0.0/33, $rule, $prefixes}\n"
+refuse ':3: unknown key "zero-checksum"' \
+    "format: 1\nrules:\n- {name: r, prefix: 10.0.0.0/8, $rule, $prefixes, zero-checksum: allow}\n"
 refuse ':4: rule "s": not sound: an earlier rule has the same prefix and length: "r"' \
     "format: 1\nrules:\n- {name: r, prefix: 10.0.0.0/8, $rule, $prefixes}\n- {name: s, prefix: 10.0.0.0/8, $rule, $prefixes}\n"
 
@@ -272,6 +281,23 @@ printf 'format: 1\nentries:\n- {%s}\n- {%s, source: "fe80::1"}\n' "$end" "${end/
 expect 0 '' compile odd.yaml -o odd.table
 [ ! -s errors ] || fail "a warning of no source, or of a good one"
 
+# the mark for UDP checksum 0: entry octet 9, which is octet 25 of the table; 0 is said by no word
+for word in allow refuse ''; do
+    printf 'format: 1\n%b%bentries:\n- {%s, direction: uplink, policy: p%s}\n' "$waypoint" "$policy" "$d" \
+        "${word:+, zero-checksum: $word}" >mark.yaml
+    for behaviour in End.M.GTP6.D End.M.GTP6.D.Di; do
+        sed -i "s/End.M.GTP6.D[.Di]*/$behaviour/" mark.yaml
+        expect 0 '' compile mark.yaml -o mark.table
+        [ "$(od -An -tu1 -j25 -N1 mark.table)" -eq "$([ "$word" = allow ] && echo 1 || echo 0)" ] || fail "another mark: '$word'"
+        expect 0 "behaviour: $behaviour" show mark.table
+        [ "$(grep -cx '  zero-checksum: allow' output)" -eq "$([ "$word" = allow ] && echo 1 || echo 0)" ] || fail "show: '$word'"
+        [ "$(grep -c zero-checksum output)" -le 1 ] || fail "show says the mark twice, or that it is 0"
+        cp output shown.yaml
+        expect 0 '' compile shown.yaml -o again.table
+        cmp -s mark.table again.table || fail "the mark '$word' does not come back from show"
+    done
+done
+
 # as many records as there may be, and one more of each
 python3 "$here/descriptions.py" most most.yaml || fail "descriptions.py failed"
 expect 0 '' compile most.yaml -o most.table
@@ -313,7 +339,11 @@ unsound 'entry 1 2001:db8:1::/47: bits past the prefix length are not 0' 17 47
 unsound 'entry 1 2001:db8:1::/48: the direction is unknown' 19 2
 unsound 'entry 1 2001:db8:1::/48: the session type is unknown' 20 4
 unsound 'entry 1 2001:db8:1::/48: the policy does not exist' 21 1
-unsound 'entry 1 2001:db8:1::/48: the reserved octet is not 0' 25 1
+unsound 'entry 1 2001:db8:1::/48: the mark for UDP checksum 0 is neither 0 nor 1' 25 2
+unsound 'entry 2 2001:db8:2::/48: the mark for UDP checksum 0 is neither 0 nor 1' $((16 + 64 + 9)) 255
+unsound 'entry 3 2001:db8:a::/48: the reserved octet is not 0' $((16 + 64 * 2 + 9)) 1
+unsound 'entry 4 2001:db8:b:1::/64: the reserved octet is not 0' $((16 + 64 * 3 + 9)) 1
+unsound 'entry 5 2001:db8:c::/48: the reserved octet is not 0' $((16 + 64 * 4 + 9)) 1
 unsound 'entry 2 2001:db8:1::/48: an earlier entry has the same prefix and length (entry 1)' $((16 + 64 + 16 + 5)) 1
 unsound 'entry 4 2001:db8:b:1::/64: Args do not start at an octet from 0 to 11' $((16 + 64 * 3 + 6)) 65
 unsound 'entry 4 2001:db8:b:1::/64: the prefix reaches into Args' $((16 + 64 * 3 + 6)) 56
@@ -361,22 +391,22 @@ expect 0 '# Compiling this gives a table that answers the same, with other octet
 
 ### explain
 
-for number in {0..17} 25 26; do
+for number in {0..18} 25 26; do
     expect 0 "$number: " explain "$number"
     grep -q '^Next step: ' output || fail "explain $number has no next step"
 done
 expect 0 '7: bad segments left' explain 0x7
 expect 0 'the table is sound' explain --fault 0
-for bad in 18 24 27 255 4294967296; do
-    expect 1 "$bad is no answer: answers are 0 to 17, 25 and 26" explain "$bad"
+for bad in 19 24 27 255 4294967296; do
+    expect 1 "$bad is no answer: answers are 0 to 18, 25 and 26" explain "$bad"
 done
 for bad in x 7x '' ' 7' 0x 0x0x7 99999999999999999999999; do
     expect 2 'is no number' explain "$bad"
 done
-for bad in 1 262 512 527 783 781 1028 1281 4294967809; do
+for bad in 1 262 512 528 783 781 1028 1281 4294967809; do
     expect 1 "$bad is no fault of a table" explain --fault "$bad"
 done
-for fault in 257 261 513 526 769 780 1025 1027 $((526 + 65536 * 63)); do
+for fault in 257 261 513 526 527 769 780 1025 1027 $((526 + 65536 * 63)); do
     expect 0 'Broken: ' explain --fault "$fault"
 done
 
