@@ -87,13 +87,13 @@ sed -e 's/office/allowing/g' -e "s|^$di_fits\$|&; the near entry allows UDP chec
 same stdout both-allowing
 vary allowing-d office "$(record downlink-ipv6 's/direction: .*/&\n    zero-checksum: allow/'); s/End.M.GTP6.D.Di/End.M.GTP6.D/"
 run 0 match --near allowing-d "${waypoints[@]}" --far crane
-printed "  entry 2 End.M.GTP6.D 2001:db8:77::/48: fits, via gate, mast; End.M.GTP6.D has no far end in the tables, so only its waypoints are \
-checked; the near entry allows UDP checksum 0"
+printed "  entry 2 End.M.GTP6.D 2001:db8:77::/48: fits, via gate, mast; End.M.GTP6.D has no far end in the tables, so only its waypoints \
+are checked; the near entry allows UDP checksum 0"
 sed -i '/waypoints: \[/d' allowing-d.yaml
 run 0 compile allowing-d.yaml -o allowing-d
 run 0 match --near allowing-d --far crane
-printed "  entry 2 End.M.GTP6.D 2001:db8:77::/48: nothing to check: no waypoint, and End.M.GTP6.D has no far end in the tables; the near entry \
-allows UDP checksum 0"
+printed "  entry 2 End.M.GTP6.D 2001:db8:77::/48: nothing to check: no waypoint, and End.M.GTP6.D has no far end in the tables; the near \
+entry allows UDP checksum 0"
 run 1 match --near allowing --far crane
 ! grep -q 'UDP checksum' stdout || fail "UDP checksum 0 is told of an entry that does not fit"
 

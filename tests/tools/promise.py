@@ -86,7 +86,7 @@ def flipped(directory: Path, version: int) -> None:
     ip = f"IPv{version} header"
     if version == 6:  # with 30 octets, and with none; octets that are 0 in the promised packet too are not told
         missing = ["destination", "TEID", "QFI", "R", "UDP checksum", "inner octets"]
-        none = ["source", *missing[:4], "traffic class", "UDP checksum", "inner octets", *(f"octet {at} of the {ip}" for at in (0, 5, 6, 7))]
+        none = ["source", *missing[:4], "traffic class", *missing[4:], *(f"octet {at} of the {ip}" for at in (0, 5, 6, 7))]
     else:
         missing = ["TEID", "QFI", "R", "inner octets"]
         none = ["source", "destination", *missing[:3], "traffic class", "header checksum", "inner octets",
