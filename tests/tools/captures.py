@@ -244,6 +244,9 @@ def main() -> None:
     zero_sent = srv6("2001:db8:f::1", 0xB8, WAYPOINTS + ["2001:db8:b:1:1601:203:400:0", yard.RADIO6], zero_inner)
     sent("checksums-sent.expected", [sent6, (9, zero_sent), (10, sent4[1])])
     sent("checksums-allowed.expected", [sent6, (1, sent6[1]), (2, sent_last[1]), (3, echoed), (9, zero_sent), (10, sent4[1])])
+    write("checksums-shown.pcap", pcap(RAW, [(time, packet) for time, packet in enumerate([
+        unfinished(over6[1]), unfinished(last6[1]), with_checksum(over6[1], 0),
+        with_checksum(over6[1], held_checksum(over6[1]) ^ 1)])]))
     write("checksums-two.pcap", pcap(RAW, [(0, with_checksum(over6[1], 0)), (1, unfinished(over6[1]))]))
 
     # what is counted and left out, or refused

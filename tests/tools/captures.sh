@@ -428,6 +428,11 @@ run 0 trip "${uplink[@]}" "$work/numbered.pcap"
 sed -n '/^    \$ kawsarpa trip.*grep Echo$/,/^$/{/^    \$/d; s/^    //p}' "$here/../../docs/FIELD-GUIDE.md" >"$work/shown"
 grep Echo "$work/stdout" | diff "$work/shown" - >&2 || fail "the field guide shows another trip of an Echo Request"
 
+run 0 translate --table "$work/office" --trace "$work/checksums-shown.pcap" "$work/out/sent.pcap"
+sed -n '/^    \$ kawsarpa translate.* checksums.pcap /,/^$/{/^    \$/d; s/^    //p}' "$here/../../docs/FIELD-GUIDE.md" >"$work/shown"
+[ -s "$work/shown" ] || fail "the field guide shows no UDP checksums"
+grep -e ' 18 ' -e 'of them' "$work/stdout" | diff "$work/shown" - >&2 || fail "the field guide shows other UDP checksums"
+
 # hostile captures
 cat >"$work/everywhere.yaml" <<'END'
 format: 1
