@@ -60,8 +60,9 @@ def d_or_di(draw: Draw, session: int, shape: str, direction: int, n: int, behavi
     sids = [draw.ipv6() for _ in range(n)]
     args = flow.args(outgoing.carried(flow, direction))
     path = sids[:-1] + [outgoing.place(sids[-1], a, args)] + [destination] * extra
-    entry = table.entry(behaviour, destination, draw.randrange(129), hop_limit, direction, session, 0, source=source)
-    packet = arriving.over_ipv6(draw, flow, direction, inner, tclass, destination)
+    allowed = draw.bits(1)  # UDP checksum 0
+    entry = table.entry(behaviour, destination, draw.randrange(129), hop_limit, direction, session, 0, source=source, zero_checksum=allowed)
+    packet = arriving.over_ipv6(draw, flow, direction, inner, tclass, destination, bool(allowed & draw.bits(1)))
     pairs = outgoing.srv6(tclass, hop_limit, source, path, inner)
     octets = table.table([entry], [], [table.policy(sids, a)])
     return Case("Di" if extra else "D", "ipv6", packet, octets, pairs, inner.octets)

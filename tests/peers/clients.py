@@ -18,11 +18,9 @@ from tunnel import NODE, Tunnel
 
 SEED = 6
 EXCHANGES = 50  # with each kind of gateway
-UNCHECKED = 10  # sockets that refuse UDP checksum 0, with each kind of gateway over IPv6
 REQUESTS = 5  # of a run of kawsarpa echo
 FIRST = 65533  # its first sequence number
-UDP_NO_CHECK6_RX = 102  # Linux; IP_RECVTOS and the like have no names in Python
-IP_RECVTTL, IP_RECVTOS = 12, 13
+IP_RECVTTL, IP_RECVTOS = 12, 13  # Linux; Python has no names for them
 
 
 @dataclass(frozen=True)
@@ -42,7 +40,7 @@ def draw_gateway(draw: Draw, name: str) -> Gateway:
     return Gateway(name, address, hop_limit, echo.entry(draw, table.D if name == "D" else table.DI, address, hop_limit))
 
 
-def open_client(gateway: Gateway, port: int, tclass: int, checked: bool) -> socket.socket:
+def open_client(gateway: Gateway, port: int, tclass: int) -> socket.socket:
     """An ordinary UDP socket; connected, so the kernel hands it only what comes from the gateway's address and port 2152."""
     if gateway.name == "D4":
         client = socket.socket(socket.AF_INET, socket.SOCK_DGRAM)
@@ -52,8 +50,6 @@ def open_client(gateway: Gateway, port: int, tclass: int, checked: bool) -> sock
         client = socket.socket(socket.AF_INET6, socket.SOCK_DGRAM)
         options = [(socket.IPV6_TCLASS, tclass), (socket.IPV6_RECVTCLASS, 1), (socket.IPV6_RECVHOPLIMIT, 1)]
         level = socket.IPPROTO_IPV6
-        if not checked:
-            client.setsockopt(socket.IPPROTO_UDP, UDP_NO_CHECK6_RX, 1)
     for option, value in options:
         client.setsockopt(level, option, value)
     client.bind(("", port))
@@ -74,21 +70,20 @@ def received(client: socket.socket) -> tuple[bytes, dict[int, int]]:
 class Clients:
     def __init__(self, tunnel: Tunnel, count: Count) -> None:
         self.tunnel, self.count, self.draw = tunnel, count, Draw(SEED)
-        self.dropped = 0
 
-    def drawn(self, name: str, checked: bool) -> tuple[Gateway, socket.socket, int, echo.Message]:
+    def drawn(self, name: str) -> tuple[Gateway, socket.socket, int, echo.Message]:
         """A gateway of this kind, a client, its traffic class and its message, which is sent."""
         gateway = draw_gateway(self.draw, name)
         port, tclass = self.draw.choice([0, wire.GTPU_PORT, self.draw.randrange(1, 65536)]), self.draw.bits(8)
-        client: socket.socket = self.tunnel.chain.within(NODE, lambda: open_client(gateway, port, tclass, checked))
+        client: socket.socket = self.tunnel.chain.within(NODE, lambda: open_client(gateway, port, tclass))
         flags = wire.S | self.draw.choice([0, wire.PN, wire.E, wire.E | wire.PN])
         message = echo.request(self.draw, flags)
         client.send(message.octets)
         return gateway, client, tclass, message
 
     def exchange(self, name: str) -> None:
-        """The client gets the Echo Response. Over IPv6 it has to allow the UDP checksum 0."""
-        gateway, client, tclass, message = self.drawn(name, False)
+        """The client gets the Echo Response: its kernel finds no fault with it, and the gateway none with the Echo Request."""
+        gateway, client, tclass, message = self.drawn(name)
         with client:
             self.tunnel.serve(gateway.table, lambda: readable(client), f"an Echo Request to {name}")
             octets, beside = received(client)
@@ -100,30 +95,11 @@ class Clients:
                               f"expected {wire.echo_response(message.number).hex()} and {expected}",
                               f"the socket received {octets.hex()} and {beside}")
 
-    def refuse(self, name: str) -> None:
-        """A client that does not allow it gets nothing, and the kernel counts a wrong checksum (RFC 8200, 8.1). Order 2 changes this."""
-        before = self.tunnel.counter("Udp6InCsumErrors")
-        gateway, client, _, message = self.drawn(name, True)
-        with client:
-            self.tunnel.serve(gateway.table, lambda: readable(client) or self.tunnel.counter("Udp6InCsumErrors") > before,
-                              f"an Echo Request to {name} of a socket that refuses UDP checksum 0")
-            arrived = readable(client)
-        errors = self.tunnel.counter("Udp6InCsumErrors") - before
-        self.dropped += errors
-        self.count.echoes += 1
-        if arrived or errors != 1:
-            self.count.differ(f"difference: an Echo Request to {name}: {message.octets.hex()}",
-                              f"expected UDP checksum 0 in its Echo Response, and 1 Udp6InCsumErrors, not {errors}; received: {arrived}")
-
     def sockets(self) -> str:
         for name in ("D", "Di", "D4"):
             for _ in range(EXCHANGES):
                 self.exchange(name)
-        for name in ("D", "Di"):
-            for _ in range(UNCHECKED):
-                self.refuse(name)
-        return (f"UDP sockets receive {2 * EXCHANGES} Echo Responses over IPv6 and {EXCHANGES} over IPv4; the kernel drops "
-                f"{self.dropped} with checksum 0")
+        return f"UDP sockets receive {2 * EXCHANGES} Echo Responses over IPv6 and {EXCHANGES} over IPv4"
 
     def tool(self, program: str) -> str:
         for name in ("D", "Di", "D4"):

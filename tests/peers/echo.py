@@ -94,10 +94,11 @@ def port(draw: Draw) -> int:
     return port(draw) if drawn in TRACEROUTE else drawn
 
 
-def entry(draw: Draw, behaviour: int, address: bytes, hop_limit: int) -> bytes:
+def entry(draw: Draw, behaviour: int, address: bytes, hop_limit: int, zero_checksum: int = 0) -> bytes:
     """A table with such an entry for the address; an Echo Response has nothing of its session, its policy and its source."""
     sids, octets = [draw.ipv6() for _ in range(draw.randrange(1, 9))], draw.randrange(12)
-    drawn = table.entry(behaviour, address, draw.randrange(129), hop_limit, draw.bits(1), draw.choice(SESSIONS), 0, source=draw.ipv6())
+    drawn = table.entry(behaviour, address, draw.randrange(129), hop_limit, draw.bits(1), draw.choice(SESSIONS), 0, source=draw.ipv6(),
+                        zero_checksum=zero_checksum)
     return table.table([drawn], [], [table.policy(sids, octets)])
 
 
@@ -109,8 +110,8 @@ def rule(draw: Draw, address: bytes, ttl: int) -> bytes:
                                        waypoints)])
 
 
-def over_ipv6(draw: Draw, message: Message, behaviour: int, routed: bool) -> Echo:
-    """Routed: behind an SRH with SL 0, which is not answered with one."""
+def over_ipv6(draw: Draw, message: Message, behaviour: int, routed: bool, zero_checksum: int = 0) -> Echo:
+    """Routed: behind an SRH with SL 0, which is not answered with one. The mark is that of the entry."""
     source, destination, source_port, hop_limit = draw.ipv6(), draw.ipv6(), port(draw), draw.hop_limit()
     tclass, label, arriving, next_header = draw.bits(8), draw.bits(20), draw.bits(8), wire.NEXT_UDP
     checksum = wire.udp_checksum(source, destination, wire.udp(source_port, wire.GTPU_PORT, 0, message.octets))
@@ -124,11 +125,12 @@ def over_ipv6(draw: Draw, message: Message, behaviour: int, routed: bool) -> Ech
         next_header = wire.NEXT_ROUTING
     pairs = expect.ipv6(tclass, label, len(payload), next_header, arriving, source, destination) + pairs
     octets = wire.echo_response(message.number)
+    answering = wire.udp_checksum(destination, source, wire.udp(wire.GTPU_PORT, source_port, 0, octets))
     answer = (expect.ipv6(tclass, 0, 8 + len(octets), wire.NEXT_UDP, hop_limit, destination, source)
-              + expect.udp(wire.GTPU_PORT, source_port, 0, expect.ILLEGAL, octets) + expect.echo_response(message.number))
+              + expect.udp(wire.GTPU_PORT, source_port, answering, expect.GOOD, octets) + expect.echo_response(message.number))
     packet = wire.ipv6(tclass, label, next_header, arriving, source, destination, payload)
     name = ("Di" if behaviour == table.DI else "D") + (" with an SRH" if routed else "")
-    return Echo(name, "ipv6", packet, entry(draw, behaviour, destination, hop_limit), message, pairs, answer)
+    return Echo(name, "ipv6", packet, entry(draw, behaviour, destination, hop_limit, zero_checksum), message, pairs, answer)
 
 
 def over_ipv4(draw: Draw, message: Message, gateway: bytes = b"") -> Echo:

@@ -6,7 +6,7 @@ import wire
 
 Pairs = list[tuple[str, str]]
 
-ABSENT, ILLEGAL, GOOD = "3", "4", "1"  # tshark's names for the status of a checksum
+ABSENT, GOOD = "3", "1"  # tshark's names for the status of a checksum
 
 
 def address(octets: bytes) -> str:
@@ -68,7 +68,7 @@ def ipv4(tos: int, total_length: int, identification: int, dont_fragment: bool, 
 
 
 def udp(source_port: int, destination_port: int, checksum: int, status: str, payload: bytes) -> Pairs:
-    pairs = layer("udp") + [
+    return layer("udp") + [
         ("udp.srcport", str(source_port)),
         ("udp.dstport", str(destination_port)),
         ("udp.length", str(8 + len(payload))),
@@ -76,9 +76,6 @@ def udp(source_port: int, destination_port: int, checksum: int, status: str, pay
         ("udp.checksum.status", status),
         ("udp.payload", payload.hex()),
     ]
-    if status == ILLEGAL:
-        pairs.append(("_ws.expert.message", "Illegal checksum value (0)"))
-    return pairs
 
 
 def message(kind: int, teid: int, flags: int, length: int) -> Pairs:

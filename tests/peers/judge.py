@@ -47,6 +47,7 @@ class Count:
     refusals: int = 0
     readings: int = 0
     echoes: int = 0
+    checksums: int = 0
     differences: int = 0
 
     def differ(self, *lines: str) -> None:

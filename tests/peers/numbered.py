@@ -40,7 +40,7 @@ def message(draw: Draw, kind: int, flags: int, inner: bytes) -> bytes:
 
 
 def datagram(draw: Draw, source: bytes, destination: bytes, octets: bytes, checked: bool) -> bytes:
-    """With a UDP checksum or with 0 in its place."""
+    """With a UDP checksum or with 0 in its place, which no reader looks at."""
     port = draw.source_port()
     checksum = wire.udp_checksum(source, destination, wire.udp(port, wire.GTPU_PORT, 0, octets)) if checked else 0
     return wire.udp(port, wire.GTPU_PORT, checksum, octets)
@@ -69,15 +69,18 @@ OUTERS: list[Callable[[Draw, bytes, bool], Packet]] = [over_ipv6, over_srh, over
 
 
 def whole(draw: Draw) -> Iterator[Packet]:
-    """G-PDUs around every kind of inner packet and around none; other messages, with S."""
+    """G-PDUs around every kind of inner packet and around none; other messages, with S. Over IPv4 some have no UDP checksum."""
     for outer in OUTERS:
+        def made(octets: bytes) -> Packet:
+            return outer(draw, octets, outer is not over_ipv4 or bool(draw.bits(1)))
+
         for flags in FLAGS:
             for _ in range(REPEATS):
                 inners = [draw.inner(shape, draw.size(1400)).octets for shape in ("IPv4", "IPv6", "Ethernet")]
                 for inner in [*inners, b""]:
-                    yield outer(draw, message(draw, wire.G_PDU, flags, inner), bool(draw.bits(1)))
+                    yield made(message(draw, wire.G_PDU, flags, inner))
         for kind in (wire.ECHO_REQUEST, wire.ERROR_INDICATION, wire.END_MARKER):
-            yield outer(draw, message(draw, kind, wire.S, b""), bool(draw.bits(1)))
+            yield made(message(draw, kind, wire.S, b""))
 
 
 def spoiled(draw: Draw) -> Iterator[Packet]:

@@ -30,19 +30,23 @@ def without_srh(tclass: int, hop_limit: int, source: bytes, destination: bytes, 
     return expect.ipv6(tclass, 0, len(inner.octets), inner.next_header, hop_limit, source, destination) + inner.pairs
 
 
-def g_pdu(flow: Flow, direction: int, source_port: int, status: str, inner: Inner) -> expect.Pairs:
-    reflective = carried(flow, direction)
+def message(flow: Flow, direction: int, inner: Inner) -> bytes:
+    """The octets of a G-PDU."""
+    return wire.gtpu(flow.teid, bytes([direction << 4, carried(flow, direction) << 6 | flow.qfi]), inner.octets)
+
+
+def g_pdu(flow: Flow, direction: int, source_port: int, checksum: int, status: str, inner: Inner) -> expect.Pairs:
     length = GTPU_HEADER - 8 + CONTAINER + len(inner.octets)
-    octets = wire.gtpu(flow.teid, bytes([direction << 4, reflective << 6 | flow.qfi]), inner.octets)
-    datagram = expect.udp(source_port, wire.GTPU_PORT, 0, status, octets)
-    return datagram + expect.gtpu(flow.teid, length, direction, flow.qfi, reflective) + inner.pairs
+    datagram = expect.udp(source_port, wire.GTPU_PORT, checksum, status, message(flow, direction, inner))
+    return datagram + expect.gtpu(flow.teid, length, direction, flow.qfi, carried(flow, direction)) + inner.pairs
 
 
 def e6(tclass: int, hop_limit: int, source: bytes, destination: bytes, source_port: int, flow: Flow, direction: int,
        inner: Inner) -> expect.Pairs:
     length = 8 + GTPU_HEADER + CONTAINER + len(inner.octets)
     outer = expect.ipv6(tclass, 0, length, wire.NEXT_UDP, hop_limit, source, destination)
-    return outer + g_pdu(flow, direction, source_port, expect.ILLEGAL, inner)
+    checksum = wire.udp_checksum(source, destination, wire.udp(source_port, wire.GTPU_PORT, 0, message(flow, direction, inner)))
+    return outer + g_pdu(flow, direction, source_port, checksum, expect.GOOD, inner)
 
 
 def e4(tos: int, ttl: int, source: bytes, destination: bytes, source_port: int, flow: Flow, direction: int,
@@ -51,4 +55,4 @@ def e4(tos: int, ttl: int, source: bytes, destination: bytes, source_port: int, 
     # the checksum is a sum over the other fields, so the header is laid out once for it
     header = wire.ipv4(tos, 0, True, ttl, wire.NEXT_UDP, source, destination, bytes(length - 20))
     outer = expect.ipv4(tos, length, 0, True, ttl, wire.NEXT_UDP, wire.ipv4_checksum(header), source, destination)
-    return outer + g_pdu(flow, direction, source_port, expect.ABSENT, inner)
+    return outer + g_pdu(flow, direction, source_port, 0, expect.ABSENT, inner)

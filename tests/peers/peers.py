@@ -1,11 +1,13 @@
-"""peers.py CALL TOOL GGSN WORK PREFIX: the five parts, with the programs CALL and TOOL (kawsarpa), the folder GGSN in which osmo-ggsn is
+"""peers.py CALL TOOL GGSN WORK PREFIX: the six parts, with the programs CALL and TOOL (kawsarpa), the folder GGSN in which osmo-ggsn is
 unpacked, files in WORK, and namespaces whose names begin with PREFIX."""
 
 import sys
 import time
 from pathlib import Path
 
+import checksums
 import clients
+import datagrams
 import decoded
 import echo
 import ggsn
@@ -50,9 +52,14 @@ def main(call: str, tool: str, ggsn_folder: Path, work: Path, prefix: str) -> in
     for words in clients.run(tunnel, tool, count):
         say(words)
     say(ggsn.run(tunnel, ggsn_folder, tool, work, count))
+    say(checksums.run(library, work, count))
+    sent, words = datagrams.run(library, tunnel, count)
+    judge(sent, work, count)
+    say(words)
+    say(datagrams.offload(library, chain, tool, work, count))
     print(f"peers: {count.packets} packets decoded, {count.fields} fields compared, {count.waypoints} waypoints, "
-          f"{count.refusals} refusals, {count.readings} readings and {count.echoes} Echo Responses compared, "
-          f"{count.differences} differences")
+          f"{count.refusals} refusals, {count.readings} readings, {count.echoes} Echo Responses and {count.checksums} UDP checksums "
+          f"compared, {count.differences} differences")
     return 1 if count.differences else 0
 
 

@@ -15,7 +15,6 @@ SEED = 4
 FOUND = 1 << 48
 LAYERS = {"ipv6": "ipv6", "ipv4": "ip"}
 CHAINS = {"ipv6": ["eth:ethertype:ipv6:udp:gtp", "eth:ethertype:ipv6:ipv6.routing:udp:gtp"], "ipv4": ["eth:ethertype:ip:udp:gtp"]}
-REMARKS = ["", "Illegal checksum value (0)"]  # that tshark may have on a whole packet: the UDP checksum 0 over IPv6 passes the rules
 
 
 def number(shown: dict[str, str], field: str) -> int:
@@ -70,7 +69,7 @@ class Readers:
     def judge(self, packets: list[Packet], whole: bool) -> None:
         frames = [decode.frame(packet.octets, LAYERS[packet.call]) for packet in packets]
         for packet, shown in zip(packets, decode.decode(frames, self.work), strict=True):
-            if whole and (shown["_ws.expert.message"] not in REMARKS or shown["_ws.malformed"]):
+            if whole and (shown["_ws.expert.message"] or shown["_ws.malformed"]):
                 raise RuntimeError(f"tshark on a whole packet: {shown['_ws.expert.message']}: {packet.octets.hex()}")
             if stopped(shown):
                 self.stopped += 1

@@ -16,9 +16,9 @@ def under(address: bytes, bits: int) -> bytes:
 
 
 def entry(behaviour: int, address: bytes, bits: int, hop_limit: int, direction: int = 0, session: int = 0, policy: int = 0,
-          a: int = 0, p: int = 0, q: int = 0, source_port: int = 0, source: bytes = bytes(16)) -> bytes:
+          a: int = 0, p: int = 0, q: int = 0, source_port: int = 0, source: bytes = bytes(16), zero_checksum: int = 0) -> bytes:
     """An entry whose prefix is the first bits of an address."""
-    numbers = struct.pack("!10BH4x", behaviour, bits, hop_limit, direction, session, policy, 8 * a, p, q, 0, source_port)
+    numbers = struct.pack("!10BH4x", behaviour, bits, hop_limit, direction, session, policy, 8 * a, p, q, zero_checksum, source_port)
     return numbers + under(address, bits) + source + bytes(16)
 
 

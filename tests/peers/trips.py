@@ -45,8 +45,9 @@ def hop_limit(draw: Draw) -> int:
     return draw.randrange(len(network.NODES), 256)
 
 
-def di_to_e6(draw: Draw, session: int, shape: str, direction: int, count: int, flow: Flow) -> Trip:
-    inner, tclass, destination = draw.inner(shape, draw.size(1400)), draw.bits(8), draw.ipv6()
+def di_to_e6(draw: Draw, session: int, shape: str, direction: int, count: int, flow: Flow, receiver: bytes = b"") -> Trip:
+    """To this address, or to one that is drawn."""
+    inner, tclass, destination = draw.inner(shape, draw.size(1400)), draw.bits(8), receiver or draw.ipv6()
     near_hops, far_hops = hop_limit(draw), draw.hop_limit()
     near_source, far_source, source_port, a = draw.ipv6(), draw.ipv6(), draw.source_port(), draw.randrange(len(FAR_PREFIX), 12)
     nodes, sids = waypoints(draw, count)

@@ -45,6 +45,16 @@ def udp_checksum(source: bytes, destination: bytes, datagram: bytes) -> int:
     return ones_sum(pseudo + datagram) ^ 0xFFFF or 0xFFFF
 
 
+def checked(source: bytes, destination: bytes, datagram: bytes) -> bytes:
+    """A datagram with its checksum, in the place of 0."""
+    return datagram[:6] + struct.pack("!H", udp_checksum(source, destination, datagram)) + datagram[8:]
+
+
+def udp_at(packet: bytes) -> int:
+    """Where UDP begins in an IPv6 packet: behind its header, or behind an SRH."""
+    return 48 + 8 * packet[41] if packet[6] == NEXT_ROUTING else 40
+
+
 def srh(next_header: int, segments: list[bytes], left: int, last: int, flags: int = 0, tag: int = 0, tlvs: bytes = b"") -> bytes:
     """Segments in the order of the header: the last of the path first."""
     body = b"".join(segments) + tlvs
