@@ -86,18 +86,16 @@ CHANGES: list[Callable[[Draw, bytes], bytes]] = [
     lambda draw, packet: flipped(draw, packet, len(packet) - 1, 1),
     lambda draw, packet: flipped(draw, packet, 8, 16),  # the source address
     lambda draw, packet: flipped(draw, packet, wire.udp_at(packet), 2),  # the source port
-    lambda draw, packet: words_exchanged(packet),
     lambda draw, packet: halves_exchanged(packet),
     lambda draw, packet: computed_zero(packet),
     lambda draw, packet: with_word(computed_zero(packet), CHECKSUM, 0),
 ]
+CHANGES_OF_G_PDUS = [*CHANGES, lambda draw, packet: words_exchanged(packet)]  # of an Echo Request these words may be its header
 
 
 def drawn(draw: Draw) -> Iterator[tuple[Arriving, int]]:
     """A packet with some change, its table, and the mark of the entry."""
-    for make in (g_pdu, echo_request):
-        # an Echo Request may end with what a change of the last octets would make another message of
-        changes = CHANGES if make is g_pdu else [change for change in CHANGES if change is not CHANGES[9]]
+    for make, changes in ((g_pdu, CHANGES_OF_G_PDUS), (echo_request, CHANGES)):
         for behaviour in (table.D, table.DI):
             for allowed in (0, 1):
                 for change in changes:

@@ -59,6 +59,7 @@ class Sockets:
         self.server_end = Tunnel(library, chain, SERVER, (f"{expect.address(RECEIVER)}/128",))
         self.client: socket.socket = chain.within(NODE, open_client)
         self.server: socket.socket = chain.within(SERVER, open_server)
+        self.arrived = 0
 
     def send(self, like: bytes) -> bytes:
         """The message, traffic class and destination of a packet, sent by the socket; gives the packet that its kernel made. A TUN device
@@ -93,6 +94,7 @@ class Sockets:
         arrived = received(self.server)
         due = (far.packet[48:], expect.address(far.packet[8:24]), int.from_bytes(far.packet[40:42], "big"), traffic_class(far.packet),
                far.packet[7])
+        self.arrived += arrived is not None
         if arrived != due:
             self.count.differ(f"difference: {far.name}: the socket received {arrived}, not {due}", far.how)
         return [near, far]
@@ -114,10 +116,21 @@ class Sockets:
         for checksum in wrong:
             before = self.server_end.counter("Udp6InCsumErrors")
             self.server_end.write(packet[:46] + struct.pack("!H", checksum) + packet[48:])
-            readable = select.select([self.server], [], [], 0)[0]  # when it is asked, the kernel verifies what waits
-            if readable or self.server_end.counter("Udp6InCsumErrors") != before + 1:
+            end, errors, taken = time.monotonic() + network.PATIENCE, 0, False
+            while errors == 0 and not taken and time.monotonic() < end:
+                taken = takes(self.server)
+                errors = self.server_end.counter("Udp6InCsumErrors") - before
+            if taken or errors != 1:
                 raise RuntimeError(f"the kernel takes UDP checksum {checksum:04x} where {right:04x} is right: {packet.hex()}")
         return len(wrong)
+
+
+def takes(server: socket.socket) -> bool:
+    """Whether something is received now. A wrong checksum is found, and counted under IPv6, when the socket is read."""
+    try:
+        return bool(server.recv(1, socket.MSG_DONTWAIT))
+    except BlockingIOError:
+        return False
 
 
 class Short(Draw):
@@ -203,6 +216,6 @@ def run(library: Library, client: Tunnel, count: Count) -> tuple[list[Sent], str
     sockets = Sockets(library, client.chain, client, count)
     to_gateways, travelled = sockets.to_gateways(), sockets.travel()
     dropped = sockets.refuse(travelled[-1].packet)
-    words = (f"D and Di take {len(to_gateways)} G-PDUs of a UDP socket; {len(travelled) // 2} trips from socket to socket, none lost; the "
-             f"kernel drops {dropped} of {dropped} with a wrong checksum")
+    words = (f"D and Di take {len(to_gateways)} G-PDUs of a UDP socket; {sockets.arrived} of {len(travelled) // 2} trips end in a UDP socket; "
+             f"the kernel drops {dropped} with a wrong checksum")
     return to_gateways + travelled, words
