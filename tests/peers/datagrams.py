@@ -216,6 +216,6 @@ def run(library: Library, client: Tunnel, count: Count) -> tuple[list[Sent], str
     sockets = Sockets(library, client.chain, client, count)
     to_gateways, travelled = sockets.to_gateways(), sockets.travel()
     dropped = sockets.refuse(travelled[-1].packet)
-    words = (f"D and Di take {len(to_gateways)} G-PDUs of a UDP socket; {sockets.arrived} of {len(travelled) // 2} trips end in a UDP socket; "
-             f"the kernel drops {dropped} with a wrong checksum")
+    words = (f"D and Di take {len(to_gateways)} G-PDUs of a UDP socket; {sockets.arrived} of {len(travelled) // 2} trips end in a UDP "
+             f"socket; the kernel drops {dropped} with a wrong checksum")
     return to_gateways + travelled, words
