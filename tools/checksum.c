@@ -1,5 +1,7 @@
 #include "checksum.h"
 
+#include <assert.h>
+
 #include "octets.h"
 
 /* The words of octets added to a sum; behind the last of an odd number stands a 0. */
@@ -39,6 +41,7 @@ uint16_t checksum_udp6(const uint8_t source[16], const uint8_t destination[16], 
 
 struct checksum_reading checksum_read(const struct packet_reading *packet)
 {
+    assert(packet->version == 6 && packet->udp != NULL);
     const uint16_t unfinished = fold(add_pseudo_header(packet->source, packet->destination, packet->udp_length));
     struct checksum_reading reading = {
         .fault = CHECKSUM_WRONG,
