@@ -13,11 +13,11 @@ use Rattle.rules.specs.Ipv6 as Ipv6
 use Rattle.rules.specs.Ipv4 as Ipv4
 use Rattle.rules.specs.Match.{matchEntry, matchRule}
 use Rattle.rules.specs.Gtpu as Gtpu
-use Rattle.rules.specs.Answer.{row, verdict, Decision, Sent, outcome}
+use Rattle.rules.specs.Answer.{Row, row, verdict, Decision, Sent, outcome}
 use Rattle.rules.specs.Header.{header, malformed}
 use Rattle.rules.specs.Datagram.{datagram, messageRows, gPduRows}
 use Rattle.rules.specs.Carried.{carriedBy, carried6, carried4, datagramIn6, datagramIn4}
-use Rattle.rules.specs.Gtp6D.{gtp6Rows, gtp6DRows, rowsGtp6D, decideGtp6D}
+use Rattle.rules.specs.Gtp6D.{gtp6Rows, checksumRows, gtp6DRows, rowsGtp6D, decideGtp6D}
 use Rattle.rules.specs.D.{dPath, dPacket, atD}
 use Rattle.rules.specs.Di.{diPath, diPacket, atDi}
 use Rattle.rules.specs.D4.{gtp4Rows, d4Rows, rowsD4, d4Packet, atD4}
@@ -31,7 +31,7 @@ use Rattle.rules.proofs.Deciding.{settled6, settled4, at-found-entry, at-found-
 use Rattle.rules.proofs.Entries.{at-d, at-di}
 use Rattle.rules.proofs.NearGtp6D.{gPdu-decides}
 use Rattle.rules.proofs.NearD4.{gPdu-at-d4}
-use Rattle.sequence.specs.Sequence.{rows9To11, gPduRows6, gPduRows4, teid, sequence6, sequence4, ByFlag}
+use Rattle.sequence.specs.Sequence.{notGPdu, rows9To11, gPduRows6, gPduRows4, teid, sequence6, sequence4, ByFlag}
 use Rattle.sequence.proofs.Numbering.{passed-flag}
 
 -- THE ROWS
@@ -39,14 +39,15 @@ use Rattle.sequence.proofs.Numbering.{passed-flag}
 -- row 2 and those of D and Di, at every entry and along every path
 pub gtp6D-passes : (e : List ℕ) (path : List (List ℕ)) (p : List ℕ)
     → verdict (row (malformed (header p)) 2 ∷ rowsGtp6D e path p) ≡ Pass → verdict (gPduRows6 p) ≡ Pass
-unfolding rowsGtp6D gPduRows6 gPduRows
+unfolding rowsGtp6D gPduRows6 messageRows gPduRows
 gtp6D-passes e path p v =
     let n = pass-none (row (malformed (header p)) 2 ∷ rowsGtp6D e path p) v in
     let g = datagram (datagramIn6 p) in
     let tunnel = gtp6Rows (header p) g in
     let last = gtp6DRows e path (carried6 p .inner) in
-    let (a, (b, (c, d))) = none-parts tunnel (messageRows g) (gPduRows (Entry.direction e) g) last (n .1) in
-    none-pass (gPduRows6 p) (n .0, none-append tunnel (rows9To11 g) a (none-append (messageRows g) _ b (c .0, tt)))
+    let (a, (b, (c, d))) = none-parts tunnel (messageRows (checksumRows e p) g) (gPduRows (Entry.direction e) g) last (n .1) in
+    let type : List Row = row (notGPdu g) 11 ∷ [] in
+    none-pass (gPduRows6 p) (n .0, none-append tunnel (rows9To11 g) a (none-append (messageRows [] g) type (b .0, b .1 .1) (c .0, tt)))
 
 -- rows 2 and 3 and those of D4, at every rule
 pub d4-passes : (r p : List ℕ) → verdict (row (malformed4 (header4 p)) 2 ∷ row (badHeader4 (header4 p)) 3 ∷ rowsD4 r p) ≡ Pass
@@ -57,8 +58,8 @@ d4-passes r p v =
     let g = datagram (datagramIn4 p) in
     let tunnel = gtp4Rows (header4 p) g in
     let last = d4Rows r (carried4 p .inner) in
-    let (a, (b, (c, d))) = none-parts tunnel (messageRows g) (gPduRows (Rule.direction r) g) last (n .1 .1) in
-    none-pass (gPduRows4 p) (n .0, (n .1 .0, none-append tunnel (rows9To11 g) a (none-append (messageRows g) _ b (c .0, tt))))
+    let (a, (b, (c, d))) = none-parts tunnel (messageRows [] g) (gPduRows (Rule.direction r) g) last (n .1 .1) in
+    none-pass (gPduRows4 p) (n .0, (n .1 .0, none-append tunnel (rows9To11 g) a (none-append (messageRows [] g) _ b (c .0, tt))))
 
 -- THE CALLS
 

@@ -26,9 +26,9 @@ use Rattle.rules.specs.declared.Verdict.the-variants.{Pass, Refuse}
 abbrev pub notGPdu : Datagram → List Bool
 notGPdu g = differs (g .messageType) gPdu ∷ []
 
--- rows 9 to 11
+-- rows 9 to 11; the readers verify no checksum, which is the entry's matter
 abbrev pub rows9To11 : Datagram → List Row
-rows9To11 g = messageRows g ++ row (notGPdu g) 11 ∷ []
+rows9To11 g = messageRows [] g ++ row (notGPdu g) 11 ∷ []
 
 -- rows 2, 5 and 7 to 11 of an IPv6 packet
 unfoldable pub gPduRows6 : List ℕ → List Row
