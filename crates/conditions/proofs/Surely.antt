@@ -14,7 +14,8 @@ use Rattle.rules.specs.Entry as Entry
 use Rattle.rules.specs.Policy as Policy
 use Rattle.rules.specs.Sound.{whereUsed, usesSession, usesPolicy, usesStart, usesPlaces, behaviourKnown, directionKnown, sessionKnown}
 use Rattle.rules.specs.Sound.{startWithin, prefixBeforeArgs, pWithin, qWithin, prefixBeforeAddress, reservedClear}
-use Rattle.rules.specs.Sound.{every, entryConditions, entryMarks, entrySound, rulePrefixClear, sidPrefixClear, sourcePrefixClear, ruleConditions, ruleSound}
+use Rattle.rules.specs.Sound.{every, entryConditions, entryMarks, entrySound, rulePrefixClear, sidPrefixClear, sourcePrefixClear}
+use Rattle.rules.specs.Sound.{ruleConditions, ruleSound}
 use Rattle.rules.specs.Sound.{policyConditions, policySound}
 use Rattle.rules.proofs.Conditions.{and-left, and-right, and-both, Holds, holds-every, _also_}
 use Rattle.rules.proofs.Windows.{octet-window}
@@ -82,7 +83,8 @@ module _ (n : ℕ) (e : List ℕ) (f : Front e) where
         pick (yes b) = sound-named (rw b refl) (rw b refl) (rw b refl) (rw b refl) p
         pick (no a) = let b : Entry.behaviour e ≡ 70 = omega arith in sound-named (rw b refl) (rw b refl) (rw b refl) (rw b refl) p
 
-    pub sound-e6 : Entry.behaviour e ≡ endMGtp6E → eqb (Entry.zeroChecksum e) 0 && (startWithin (Entry.start e) && prefixBeforeArgs e) ≡ true
+    pub sound-e6 : Entry.behaviour e ≡ endMGtp6E
+        → eqb (Entry.zeroChecksum e) 0 && (startWithin (Entry.start e) && prefixBeforeArgs e) ≡ true
         → entrySound n e ≡ true
     sound-e6 b g =
         let h = and-right (eqb (Entry.zeroChecksum e) 0) _ g in

@@ -245,13 +245,7 @@ pub fn inner_at(g: rules::Datagram) -> usize
 }
 
 // The 24 octets before an inner packet of `size` octets: sequence number and N-PDU number are 0.
-pub fn head_of(
-    port: u16,
-    direction: u8,
-    checksum: u16,
-    args: args::Args,
-    size: usize,
-) -> [u8; 24]
+pub fn head_of(port: u16, direction: u8, checksum: u16, args: args::Args, size: usize) -> [u8; 24]
     requires { ⌜ (24 + size < 65536) × (direction < 16) ⌝ }
     ensures { λ r. ⌜ r ≡ Gtpu.datagramBefore port direction checksum (value args) size [] ⌝ }
 {

@@ -65,8 +65,8 @@ upper-least p h e = rw e (go (eqb (Ipv6.nextHeader p) routingHeader))
     go false = omega arith
 
 -- row 9 passed
-pub udp-long : (p : List ℕ) (at : ℕ) (g : Datagram) (v : Verdict) → g ≡ datagram (drop at p) → v ≡ verdict (row (badUdp g) 9 ∷ []) → v ≡ Pass
-    → at + 8 ≤ length p
+pub udp-long : (p : List ℕ) (at : ℕ) (g : Datagram) (v : Verdict) → g ≡ datagram (drop at p) → v ≡ verdict (row (badUdp g) 9 ∷ [])
+    → v ≡ Pass → at + 8 ≤ length p
 unfolding datagram
 udp-long p at g v view e q =
     let n = pass-none (row (badUdp g) 9 ∷ []) (sym e ∙ q) in
@@ -109,7 +109,8 @@ module _ (e policy : List ℕ) (tail : ℕ) (p : List ℕ) (h : Header) (asked :
       echo-front = gtp6Rows (header p) (datagram (datagramIn6 p)) ++ messageRows (checksumRows e p) (datagram (datagramIn6 p))
 
       echo6-front : isEcho (datagram (datagramIn6 p)) ≡ true → v ≡ verdict echo-front
-      echo6-front t = echo-verdict p (header p .upperAt) g place size first here (gtp6Rows h g) (checksumRows e p) (Entry.direction e) (Entry.session e) _ v
+      echo6-front t = echo-verdict p (header p .upperAt) g place size first here (gtp6Rows h g) (checksumRows e p) (Entry.direction e)
+          (Entry.session e) _ v
           judged t _ front-here
 
       echo6-rows : echoPlan6 e p .rows ≡ echo-front ++ echoRows (datagram (datagramIn6 p))
@@ -124,10 +125,12 @@ module _ (e policy : List ℕ) (tail : ℕ) (p : List ℕ) (h : Header) (asked :
           let path = gtp6DPath tail policy (carried6 p) in
           let k : n - 1 + tail ≡ length path = ap (λ (j : ℕ). j - 1 + tail) hn ∙ sym path-count in
           let z : size ≡ length (carried6 p .inner) = here .holds ∙ sym (length-drop place p) ∙ ap length inner-here in
-          let bounds = gpdu-bounds p (header p .upperAt) g place size first here (gtp6Rows h g) (checksumRows e p) (Entry.direction e) (Entry.session e) _ v
+          let bounds = gpdu-bounds p (header p .upperAt) g place size first here (gtp6Rows h g) (checksumRows e p) (Entry.direction e)
+          (Entry.session e) _ v
           judged t in
           record {
-            rows = gpdu-verdict p (header p .upperAt) g place size first here (gtp6Rows h g) (checksumRows e p) (Entry.direction e) (Entry.session e) _ v
+            rows = gpdu-verdict p (header p .upperAt) g place size first here (gtp6Rows h g) (checksumRows e p) (Entry.direction e)
+                (Entry.session e) _ v
                 judged
                 t (carried6 p .inner) inner-here _ front-here _ (λ i. 8 + 16 * k i + z i);
             at = gPdu6-place;

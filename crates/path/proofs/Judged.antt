@@ -65,8 +65,9 @@ module _ (p : List ℕ) (at : ℕ) (g : Datagram) (place size first : ℕ) (r : 
           let n : size ≡ length inner = r .holds ∙ sym (length-drop place p) ∙ ap length e in
           let f : first ≡ octet inner 0 =
           r .starts ∙ ap (octet p) (sym (add-zero place)) ∙ sym (getD-drop place p 0 0) ∙ ap (λ (l : List ℕ). octet l 0) e in
-          gpdu-judged ∙ (λ i. verdict (ef i ++ (messageRows sum (r .view i) ++ (gPduRows direction (r .view i) ++ innerRows session (n i) (f i)
-          (ff i)))))
+          gpdu-judged
+          ∙ (λ i. verdict (ef i ++ (messageRows sum (r .view i) ++ (gPduRows direction (r .view i)
+          ++ innerRows session (n i) (f i) (ff i)))))
 
       -- the inner packet lies within, and the length field holds
       pub gpdu-bounds : v ≡ Pass → (place ≤ length p) × (field ≤ 65535)

@@ -11,7 +11,8 @@ use Rattle.rules.specs.Table.{entries, rules, policies, entryAt, ruleAt,
 use Rattle.rules.specs.Sound.{every, all, fresh, headerConditions, entryConditions, ruleConditions, policyConditions, headerSound}
 use Rattle.rules.specs.Sound.{entrySound, ruleSound, policySound, sameEntryPrefix, sameRulePrefix, distinct, soundWithin, sound}
 use Rattle.rules.specs.Sound.{entryMarks, entryLimit}
-use Rattle.rules.specs.Fault.{brokenBefore, firstBroken, told, orElse, firstFault, headerRecord, entryRecord, ruleRecord, policyRecord}
+use Rattle.rules.specs.Fault.{brokenBefore, firstBroken, told, orElse, firstFault}
+use Rattle.rules.specs.Fault.{headerRecord, entryRecord, ruleRecord, policyRecord}
 use Rattle.rules.specs.Fault.{headerBroken, entryBroken, ruleBroken, policyBroken, entryRepeated, ruleRepeated, headerFault}
 use Rattle.rules.specs.Fault.{entriesFault, entryPrefixesFault, rulesFault, rulePrefixesFault, policiesFault, faultWithin, fault}
 

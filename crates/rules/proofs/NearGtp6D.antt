@@ -47,7 +47,8 @@ module _ (e : List ℕ) (path : List (List ℕ)) (made p : List ℕ) where
       let g = datagram (datagramIn6 p) in
       let (n, k) = unless-sent (rowsGtp6D e path p) (Sent made) x (sym (ap (λ (d : Decision). outcome d) (gPdu-decides t)) ∙ h) in
       let last = gtp6DRows e path (carried6 p .inner) in
-      let (a, (b, (c, d))) = none-parts (gtp6Rows (header p) g) (messageRows (checksumRows e p) g) (gPduRows (Entry.direction e) g) last n in
+      let (a, (b, (c, d))) =
+      none-parts (gtp6Rows (header p) g) (messageRows (checksumRows e p) g) (gPduRows (Entry.direction e) g) last n in
       (record { front = front; tunnel = a; message = b; gPdu = c; last = d }, cc)
 
   pub passed-gPdu : Passed e path p → Gtpu.messageType (datagramIn6 p) ≡ gPdu
@@ -60,7 +61,8 @@ module _ (e : List ℕ) (path : List (List ℕ)) (made p : List ℕ) where
       let g = datagram (datagramIn6 p) in
       ap (λ (d : Decision). outcome d) (gPdu-decides (passed-gPdu n))
       ∙ unless-none (rowsGtp6D e path p) (Sent made)
-      (parts-none (gtp6Rows (header p) g) (messageRows (checksumRows e p) g) (gPduRows (Entry.direction e) g) (gtp6DRows e path (carried6 p .inner))
+      (parts-none (gtp6Rows (header p) g) (messageRows (checksumRows e p) g) (gPduRows (Entry.direction e) g)
+      (gtp6DRows e path (carried6 p .inner))
       (n .tunnel) (n .message) (n .gPdu) (n .last))
 
   -- in uplink R is 0

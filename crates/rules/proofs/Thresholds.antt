@@ -204,7 +204,8 @@ samples =
     ∷ is (atD (zeros 7)) 9
     ∷ is (atD (message 2152 27 0x34 255 12 (0 ∷ 0 ∷ 0 ∷ 0x85 ∷ 1 ∷ 0 ∷ 0x49 ∷ 0 ∷ zeros 4))) 9
     ∷ is (atD (message 2152 29 0x34 255 12 (0 ∷ 0 ∷ 0 ∷ 0x85 ∷ 1 ∷ 0 ∷ 0x49 ∷ 0 ∷ zeros 4))) 9
-    -- row 18: zero where it is allowed and where not; a sum that is right, and one that is not; an odd octet; behind an SRH; an Echo Request
+    -- row 18: zero where it is allowed and where not; a sum that is right and one that is not; an odd octet; behind an SRH; of an Echo
+    -- Request
     ∷ is (atD (gpdu 0x34 0x85 1 0 0)) 0
     ∷ is (strictly (gpdu 0x34 0x85 1 0 0)) 18
     ∷ is (strictly (summed 0 (gpdu 0x34 0x85 1 0 0))) 0

@@ -1,4 +1,4 @@
--- The UDP checksum over IPv6 as a plain number: what is sent adds up, both sayings of "adds up" agree, and no change of one bit goes unseen.
+-- The UDP checksum over IPv6 in plain numbers: what is sent adds up, both ways to say so agree, and a change of one octet is seen.
 use mathlib.Core.Path.{_≡_, refl, sym, ap, _∙_}
 use mathlib.Core.Logic.{_≢_, _⊎_, inl, inr}
 use mathlib.Core.Bool.{Bool, true, false, cond}

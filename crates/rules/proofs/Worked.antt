@@ -62,7 +62,8 @@ octetsOf (Refused r) = []
 abbrev pub call : (packet table : List ℕ) (room : ℕ) → List ℕ
 call p t room = answer (translate6 p t room)
 
--- inner 100, one-unit container: IPv6, its source and destination, UDP with its checksum, GTP-U of flow 9 with the reflective bit, and the inner octets
+-- inner 100, one-unit container: IPv6, its source and destination, UDP with its checksum, GTP-U of flow 9 with the reflective bit, and
+-- the inner octets
 abbrev pub in164 : List ℕ
 in164 =
     0x62 ∷ 0xe0 ∷ 0x00 ∷ 0x00 ∷ 0x00 ∷ 0x7c ∷ 0x11 ∷ 0x40

@@ -20,20 +20,7 @@ const CHECKSUM_AT: usize = 6;
 const UDP: u64 = 17;
 
 // The sum of six 16-bit words.
-fn six(
-    a: u8,
-    b: u8,
-    c: u8,
-    d: u8,
-    e: u8,
-    f: u8,
-    g: u8,
-    h: u8,
-    i: u8,
-    j: u8,
-    k: u8,
-    l: u8,
-) -> u64
+fn six(a: u8, b: u8, c: u8, d: u8, e: u8, f: u8, g: u8, h: u8, i: u8, j: u8, k: u8, l: u8) -> u64
     ensures { λ r. ⌜ (r ≡ a * 256 + b + (c * 256 + d + (e * 256 + f + (g * 256 + h + (i * 256 + j + (k * 256 + l)))))) × (r < 393216) ⌝ }
 {
     (a as u64) * 256
@@ -64,20 +51,21 @@ fn twelve(x: [u8; 24]) -> u64
         x[9],
         x[10],
         x[11],
-    ) + six(
-        x[12],
-        x[13],
-        x[14],
-        x[15],
-        x[16],
-        x[17],
-        x[18],
-        x[19],
-        x[20],
-        x[21],
-        x[22],
-        x[23],
     )
+        + six(
+            x[12],
+            x[13],
+            x[14],
+            x[15],
+            x[16],
+            x[17],
+            x[18],
+            x[19],
+            x[20],
+            x[21],
+            x[22],
+            x[23],
+        )
 }
 
 // What is sent for words whose sum this is: a computed 0 as FFFF.

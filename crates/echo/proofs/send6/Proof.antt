@@ -22,7 +22,8 @@ head-of w =
     let p = now (a .packet) in
     (λ i. ipv6 (a .class) 22 17 (a .hops) (w .before .window16 .ensures i) (w .window162 .ensures i) [] ++ w .before .before .response6
     .ensures i)
-    ∙ ipv6-before (a .class) 22 17 (a .hops) (window p 24 16) (window p 8 16) (echoAnswer (echoChecksum (window p 24 16) (window p 8 16) (drop (a .at) p)) (drop (a .at) p))
+    ∙ ipv6-before (a .class) 22 17 (a .hops) (window p 24 16) (window p 8 16)
+    (echoAnswer (echoChecksum (window p 24 16) (window p 8 16) (drop (a .at) p)) (drop (a .at) p))
 
 put-reply6-requires : tie.Need-put-reply6-requires
 put-reply6-requires c κs = omega (arith, c .before .before .before .before .before .send .ensures .room (c .before .if1 .taken))

@@ -41,7 +41,8 @@ send-requires c κs =
     )
 
 -- the inner packet begins within the arriving one
-inner-within : (c : tie.Then1) → let a = c .before .before .before .before .before .before .before .before .before .before .before .before .before .before .before .before .args in a .h .upperAt ≤ length (now (a .packet))
+inner-within : (c : tie.Then1) → let a = c .before .before .before .before .before .before .before .before .before .before .before
+    .before .before .before .before .before .args in a .h .upperAt ≤ length (now (a .packet))
 inner-within c =
     let w = c .before .before .before .before .before .before in
     judged-of (w .before .before .before .before) .within (w .before .before .enum-told .given .1)
@@ -81,7 +82,8 @@ returns-2 c =
     let whole = ap (e6HeadOf (now (a .e)) (a .h .trafficClass) (w .before .window16 .result) (w .window162 .result))
     (tail-all (a .h .upperAt) (now (a .packet))) in
     plan-sent _ (now (a .packet)) _ (e6-carried-out (now (a .e)) (now (a .packet))) (judged-of (w .before .before .before .before))
-    (w .before .before .enum-told .given .1) (c .before .before .before .before .before .before .before .before .before .send .ensures) (head-of w) (c .before .before .before .before .before .if1 .taken)
+    (w .before .before .enum-told .given .1) (c .before .before .before .before .before .before .before .before .before .send .ensures)
+    (head-of w) (c .before .before .before .before .before .if1 .taken)
     (run-as (c .before .before .put-e6 .ensures) whole)
 
 returns-3 : tie.Need-returns-3
@@ -90,7 +92,8 @@ returns-3 c =
     let a = w .before .before .before .before .before .before .before .before .before .before .args in
     plan-no-room _ (now (a .packet)) _ (e6-carried-out (now (a .e)) (now (a .packet))) (judged-of (w .before .before .before .before))
     (w .before .before .enum-told .given .1)
-    (c .before .before .before .before .send .ensures) (head-of w) (c .if1 .left) (e6-size (now (a .e)) (a .h .trafficClass) _ _ (drop (a .h .upperAt) (now (a .packet)))
+    (c .before .before .before .before .send .ensures) (head-of w) (c .if1 .left)
+    (e6-size (now (a .e)) (a .h .trafficClass) _ _ (drop (a .h .upperAt) (now (a .packet)))
     (omega (arith, w .window162 .ok)))
 
 pub at-e6-spec : {M : Type 1} → statement M

@@ -26,11 +26,16 @@ returns c =
     let to = t .window42 .ensures ∙ ap (λ (k : ℕ). window (a .t3) k 4) (t .before .wide2 .ensures .0) in
     let head = c .before .before .before .before .before .head-of in
     let octets = head .ensures ∙ (λ i. datagramBefore (j .join16 .ensures .0 i) (octet e 3) 0 (f .from-sid .ensures i) (a .size) []) in
-    run-as (next (p .put-ipv4 .ensures) (head .result) 24 (c .before .before .copy-to .ensures) (omega (arith, head .ok)) refl (omega arith))
+    run-as
+    (next (p .put-ipv4 .ensures) (head .result) 24 (c .before .before .copy-to .ensures) (omega (arith, head .ok)) refl (omega arith))
     (λ i. ipv4 (a .class) (44 + a .size) (octet e 2) (from i) (to i) [] ++ octets i)
 
 copy-to-requires : tie.Need-copy-to-requires
-copy-to-requires c κs = omega (arith, c .before .before .before .before .before .before .before .before .before .before .before .before .before .before .before .before .before .before .before .before .before .before .before .pre .0 .spacious)
+copy-to-requires c κs = omega (
+  arith,
+  c .before .before .before .before .before .before .before .before .before .before .before .before
+      .before .before .before .before .before .before .before .before .before .before .before .pre .0 .spacious,
+)
 
 pub put-e4-spec : {M : Type 1} → statement M
 put-e4-spec =

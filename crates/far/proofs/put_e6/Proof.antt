@@ -39,7 +39,8 @@ returns c =
     (datagram-whole (Entry.sourcePort e) (octet e 3) 0 (argsAt (a .sid) (Entry.start e)) inner) in
     let head = c .before .before .before .before .before .head-of2 in
     let octets = head .ensures ∙ (λ i. datagramBefore (port i) (octet e 3) (sum i) (x i) size []) in
-    run-as (next (p .put-ipv6 .ensures) (head .result) 24 (c .before .before .copy-to .ensures) (omega (arith, head .ok)) refl (omega arith))
+    run-as
+    (next (p .put-ipv6 .ensures) (head .result) 24 (c .before .before .copy-to .ensures) (omega (arith, head .ok)) refl (omega arith))
     (λ i. ipv6 (a .class) (24 + size) 17 (octet e 2) (source i) (a .to) [] ++ octets i)
 
 pub put-e6-spec : {M : Type 1} → statement M

@@ -46,7 +46,8 @@ returns-2 c =
     let e = both-mod (x .result + y .result) (length u + 17) (wordSum (window p 8 16) + wordSum (window p 24 16) + wordSum u)
     (length u + 17) m refl in
     let t : length (take (length p - at) (drop at p)) ≡ length u = ap length (tail-all at p) in
-    let l : x .result + length (take (length p - at) (drop at p)) + 17 + y .result ≡ x .result + y .result + (length u + 17) = omega arith in
+    let l : x .result + length (take (length p - at) (drop at p)) + 17 + y .result ≡ x .result + y .result + (length u + 17) =
+    omega arith in
     let r : wordSum (window p 8 16) + wordSum (window p 24 16) + wordSum u + (length u + 17) ≡ totalSum (window p 8 16) (window p 24 16) u =
     omega arith in
     rw (ne-eqb _ 0 n)

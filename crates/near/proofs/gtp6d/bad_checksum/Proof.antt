@@ -22,7 +22,8 @@ returns c =
     let p = now (s .args .packet) in
     let view = s .pre .1 .arrived .view in
     c .bad-checksum .ensures
-    ∙ ap (λ (h : Header). badChecksum (Entry.zeroAllowed (now (s .args .e))) (Ipv6.source p) (Ipv6.destination p) (drop (h .upperAt) p)) view
+    ∙ ap (λ (h : Header). badChecksum (Entry.zeroAllowed (now (s .args .e))) (Ipv6.source p) (Ipv6.destination p)
+    (drop (h .upperAt) p)) view
 
 pub bad-checksum-spec : {M : Type 1} → statement M
 bad-checksum-spec = tie.close (tie.spec (λ c. search needs) (λ c. search needs) checksum-requires returns)

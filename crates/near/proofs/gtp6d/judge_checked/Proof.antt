@@ -12,4 +12,5 @@ returns-2 c = search judged depth 20
 pub judge-checked-spec : {M : Type 1} → statement M
 judge-checked-spec =
     tie.close
-    (tie.spec (λ c κs. search needs) (λ c κs. search needs) returns (λ c. search needs) (λ c. search needs) (λ c κs. search needs) returns-2)
+    (tie.spec (λ c κs. search needs) (λ c κs. search needs) returns (λ c. search needs) (λ c. search needs) (λ c κs. search needs)
+    returns-2)

@@ -11,12 +11,14 @@ judge-checked-requires : tie.Need-judge-checked-requires
 judge-checked-requires c κs =
     let j = c .before .before in
     let s = j .before .before .before in
-    let v = s .pre .1 in
-    (s .pre .0, record {
-      arrived = v .arrived;
-      long = udp-long (now (s .args .packet)) (s .args .h .upperAt) (s .args .g) _ (v .view) (j .judge-udp .ensures)
-          (c .enum-told .given .1);
-    })
+    let v = s .pre .1 in (
+      s .pre .0,
+      record {
+        arrived = v .arrived;
+        long = udp-long (now (s .args .packet)) (s .args .h .upperAt) (s .args .g) _ (v .view) (j .judge-udp .ensures)
+            (c .enum-told .given .1);
+      },
+    )
 
 returns : tie.Need-returns
 unfolding messageRows
