@@ -130,6 +130,7 @@ prefixBeforeArgs e = leb (Entry.prefixLength e) (Entry.start e)
 abbrev pub prefixBeforeAddress : List ℕ → Bool
 prefixBeforeAddress e = leb (Entry.prefixLength e) (8 * Entry.p e)
 
+-- the last: what is a mark at D and Di is a reserved octet at the others
 abbrev pub entryConditions : (policies : ℕ) → List ℕ → List Bool
 entryConditions policies e =
     behaviourKnown e

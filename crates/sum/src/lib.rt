@@ -86,7 +86,7 @@ fn one_more(s: &[u8], sum: u64) -> u64
     sum + word(s[s.len() - 1], 0)
 }
 
-// The same as `of`, not brought below 65,535: for a sum of several parts, which is brought there once.
+// The words of s, but for a multiple of 65,535: who adds several parts brings the total below that once.
 pub fn unreduced(s: &[u8]) -> u64
     requires { ⌜ length (now s) ≤ 131072 ⌝ }
     ensures { λ r. ⌜ (r % 65535 ≡ wordSum (now (s .entry)) % 65535) × (r ≤ 36028797018963968) ⌝ }
@@ -94,24 +94,9 @@ pub fn unreduced(s: &[u8]) -> u64
     256 * one_more(s, two_more(s, four_more(s, eight_more(s, sixteens(s)))))
 }
 
-// The sum of the 16-bit words of s, modulo 65,535.
-pub fn of(s: &[u8]) -> u64
-    requires { ⌜ length (now s) ≤ 131072 ⌝ }
-    ensures { λ r. ⌜ (r ≡ wordSum (now (s .entry)) % 65535) × (r < 65535) ⌝ }
-{
-    unreduced(s) % 65535
-}
-
-// The same as `of_address`, not brought below 65,535.
+// The same of an address, by value.
 pub fn unreduced_address(a: [u8; 16]) -> u64
     ensures { λ r. ⌜ (r % 65535 ≡ wordSum a % 65535) × (r ≤ 4398046511104) ⌝ }
 {
     256 * (four(&a, 0) + four(&a, 4) + four(&a, 8) + four(&a, 12))
-}
-
-// The same of an address, by value.
-pub fn of_address(a: [u8; 16]) -> u64
-    ensures { λ r. ⌜ (r ≡ wordSum a % 65535) × (r < 65535) ⌝ }
-{
-    unreduced_address(a) % 65535
 }
