@@ -4,7 +4,7 @@ use Prim.Native.Nat.{_+_, _*_}
 use lib.Dec.{T, eqb}
 use Rattle.rules.specs.Octets.{window, number, splice}
 use Rattle.rules.specs.Prefix.{clear}
-use Rattle.rules.specs.Assigned.{end, endMGtp6D, endMGtp6DDi, endMGtp6E}
+use Rattle.rules.specs.Assigned.{end, endMGtp6D, endMGtp6DDi, endMGtp6E, endMGtp4E}
 use Rattle.rules.specs.Table.{entryAt, ruleAt, policyAt}
 use Rattle.rules.specs.Sound.{every, all, sameEntryPrefix, sameRulePrefix}
 use Rattle.rules.specs.Fault.{told, orElse, firstFault, entryBroken, ruleBroken, policyBroken, faultWithin, fault}
@@ -30,6 +30,8 @@ pub faults : T (every
     ∷ eqb (fault (splice (table endMGtp6DDi 0) 25 (2 ∷ []))) (15 + 256 * 2)
     -- and reserved at the others; octet 12 is not examined
     ∷ eqb (fault (splice (header 1 0 0 (entry end 48 (network 0xa))) 25 (1 ∷ []))) (13 + 256 * 2)
+    ∷ eqb (fault (splice (header 1 0 0 (entry endMGtp6E 48 (network 0xa))) 25 (1 ∷ []))) (13 + 256 * 2)
+    ∷ eqb (fault (splice (header 1 0 0 (entry endMGtp4E 48 (network 0xa))) 25 (1 ∷ []))) (13 + 256 * 2)
     ∷ eqb (fault (splice (header 1 0 0 (entry end 48 (network 0xa))) 28 (1 ∷ []))) 0
     -- rules: one for any destination twice
     ∷ eqb (fault (header 0 2 0 (rule [] ++ rule []))) (12 + 256 * 3 + 65536 * 1)
