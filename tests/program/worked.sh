@@ -40,7 +40,7 @@ octets=$(cat "$crate/stdin" "$crate/stdout" | wc -c)
 echo "worked: $(wc -l <"$crate/stdout") calls, $octets octets of data, as the second program writes them"
 
 # the interpreter does 10,000,000 steps at most, too few for the long packets
-write "$work/crates/worked" --per-kind 80 --max-worked 400
+write "$work/crates/worked" --per-kind 72 --max-worked 400
 cd "$work"
 if ! rt try worked >"$work/log" 2>&1; then
     cat "$work/log" >&2
