@@ -74,12 +74,22 @@ static unsigned int judge_echo(const uint8_t *gtpu)
     return (gtpu[0] & 2) == 0 || word32(gtpu + 4) != 0 ? KAWSARPA_ANSWER_BAD_ECHO : ANSWER_ECHO;
 }
 
-/* Rows 9 to 13 of a UDP datagram; 0 if none applies. */
+/* Row 9. */
+static bool bad_udp(const uint8_t *udp, size_t size)
+{
+    return size < UDP_SIZE || word16(udp + 4) != size;
+}
+
+/* Row 18. */
+static inline bool bad_checksum(const uint8_t *packet, const uint8_t *udp, size_t size, bool zero_allowed)
+{
+    return word16(udp + 6) == 0 ? !zero_allowed : udp_sum(packet + 8, udp, size) != 0xFFFF;
+}
+
+/* Rows 10 to 13 of a UDP datagram; 0 if none applies. */
 static inline unsigned int read_g_pdu(const uint8_t *udp, size_t size, uint8_t direction, struct g_pdu *g)
 {
     const uint8_t *gtpu = udp + UDP_SIZE;
-    if (size < UDP_SIZE || word16(udp + 4) != size)
-        return KAWSARPA_ANSWER_BAD_UDP;
     if (size < UDP_SIZE + GTPU_SIZE || gtpu[0] >> 4 != 3 || word16(gtpu + 2) + UDP_SIZE + GTPU_SIZE != (int)size ||
         ((gtpu[0] & 7) != 0 && size < UDP_SIZE + GTPU_LONG_SIZE))
         return KAWSARPA_ANSWER_BAD_GTPU;
@@ -160,6 +170,7 @@ static __attribute__((noinline)) uint64_t reply6(uint8_t hop_limit, const uint8_
         return KAWSARPA_ANSWER_NO_ROOM;
     put_ipv6(out, traffic_class(packet), ECHO_SIZE, UDP, hop_limit, packet + 24, packet + 8);
     put_echo(out + IPV6_SIZE, udp);
+    put_checksum(out, ECHO_SIZE);
     return sent(IPV6_SIZE + ECHO_SIZE);
 }
 
@@ -185,6 +196,10 @@ static inline uint64_t encapsulate(const struct kawsarpa_entry *e, const struct 
     const size_t datagram = size - c.upper_at;
     if (c.upper != UDP || (datagram >= UDP_SIZE && word16(udp + 2) != GTPU_PORT))
         return bad_upper_layer(c.upper_at);
+    if (bad_udp(udp, datagram))
+        return KAWSARPA_ANSWER_BAD_UDP;
+    if (bad_checksum(packet, udp, datagram, e->zero_checksum == KAWSARPA_ZERO_CHECKSUM_ALLOW))
+        return KAWSARPA_ANSWER_BAD_CHECKSUM;
     struct g_pdu g;
     const unsigned int refusal = read_g_pdu(udp, datagram, e->direction, &g);
     if (refusal != 0)
@@ -247,6 +262,7 @@ static uint64_t at_e6(const struct kawsarpa_entry *e, const uint8_t *packet, siz
     put_ipv6(out, traffic_class(packet), DATAGRAM_SIZE + inner, UDP, e->hop_limit, e->source, c.srh + SRH_SIZE);
     put_datagram(out + IPV6_SIZE, e, packet + 24 + e->args_start / 8, inner);
     memcpy(out + head, packet + c.upper_at, inner);
+    put_checksum(out, DATAGRAM_SIZE + inner);
     return sent(head + inner);
 }
 
@@ -280,6 +296,8 @@ static uint64_t at_d4(const struct kawsarpa_rule *r, const uint8_t *packet, size
     const size_t datagram = size - IPV4_SIZE;
     if (packet[9] != UDP || (datagram >= UDP_SIZE && word16(udp + 2) != GTPU_PORT))
         return KAWSARPA_ANSWER_UPPER_LAYER;
+    if (bad_udp(udp, datagram))
+        return KAWSARPA_ANSWER_BAD_UDP;
     struct g_pdu g;
     const unsigned int refusal = read_g_pdu(udp, datagram, r->direction, &g);
     if (refusal != 0)

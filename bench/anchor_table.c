@@ -30,20 +30,20 @@ static bool args_start_within(uint8_t bits)
 
 static bool entry_sound(const struct kawsarpa_entry *e, unsigned int policies)
 {
-    if (e->prefix_length > IPV6_BITS || e->hop_limit == 0 || e->reserved != 0 || !clear_past(e->prefix, e->prefix_length))
+    if (e->prefix_length > IPV6_BITS || e->hop_limit == 0 || !clear_past(e->prefix, e->prefix_length))
         return false;
     if (e->behaviour == KAWSARPA_BEHAVIOUR_END)
-        return true;
+        return e->zero_checksum == 0;
     if (!direction_known(e->direction) || !session_known(e->session_type))
         return false;
     switch (e->behaviour) {
     case KAWSARPA_BEHAVIOUR_END_M_GTP6_D:
     case KAWSARPA_BEHAVIOUR_END_M_GTP6_D_DI:
-        return e->policy < policies;
+        return e->policy < policies && e->zero_checksum <= KAWSARPA_ZERO_CHECKSUM_ALLOW;
     case KAWSARPA_BEHAVIOUR_END_M_GTP6_E:
-        return args_start_within(e->args_start) && e->prefix_length <= e->args_start;
+        return args_start_within(e->args_start) && e->prefix_length <= e->args_start && e->zero_checksum == 0;
     case KAWSARPA_BEHAVIOUR_END_M_GTP4_E:
-        return e->p <= P_MOST && e->q <= Q_MOST && e->prefix_length <= 8 * e->p;
+        return e->p <= P_MOST && e->q <= Q_MOST && e->prefix_length <= 8 * e->p && e->zero_checksum == 0;
     default:
         return false;
     }

@@ -12,6 +12,7 @@
 #include <stdlib.h>
 #include <string.h>
 
+enum { EIGHT_IN_ORDER = 1 }; /* which table of a kind */
 enum { STRIDE = 1600 }; /* an odd number of cache lines, so that packets spread over all sets of a cache */
 
 static uint8_t ring[(size_t)RING * STRIDE], out[OUT_SIZE];
@@ -248,6 +249,9 @@ int main(int argc, char **argv)
         for (unsigned int s = 0; s < SIZES; s++)
             for (unsigned int t = 0; t < TABLES; t++)
                 measure_case(count, &kinds[k], sizes[s], t);
+    for (unsigned int k = 0; k < checksum_kind_count; k++)
+        for (unsigned int s = 0; s < SIZES; s++)
+            measure_case(count, &checksum_kinds[k], sizes[s], EIGHT_IN_ORDER);
     for (unsigned int k = 0; k < kind_count; k++) {
         /* kinds that differ in segments alone: the tables cost the same */
         if (k + 1 < kind_count && kinds[k].behaviour == kinds[k + 1].behaviour)

@@ -3,18 +3,28 @@
 #include "formats.h"
 
 const struct kind kinds[] = {
-    {"waypoint", false, KAWSARPA_BEHAVIOUR_END, 128, 0, false},
-    {"D, 1 SID", false, KAWSARPA_BEHAVIOUR_END_M_GTP6_D, 64, 1, false},
-    {"D, 3 SIDs", false, KAWSARPA_BEHAVIOUR_END_M_GTP6_D, 64, 3, false},
-    {"Di, 3 SIDs", false, KAWSARPA_BEHAVIOUR_END_M_GTP6_D_DI, 64, 3, false},
-    {"D4, 0 waypoints", true, 0, 24, 0, false},
-    {"D4, 2 waypoints", true, 0, 24, 2, false},
-    {"E6", false, KAWSARPA_BEHAVIOUR_END_M_GTP6_E, 64, 0, false},
-    {"E4", false, KAWSARPA_BEHAVIOUR_END_M_GTP4_E, 48, 0, false},
-    {"D, Echo", false, KAWSARPA_BEHAVIOUR_END_M_GTP6_D, 64, 1, true},
-    {"D4, Echo", true, 0, 24, 0, true},
+    {"waypoint", false, KAWSARPA_BEHAVIOUR_END, 128, 0, false, 0, false},
+    {"D, 1 SID", false, KAWSARPA_BEHAVIOUR_END_M_GTP6_D, 64, 1, false, 0, false},
+    {"D, 3 SIDs", false, KAWSARPA_BEHAVIOUR_END_M_GTP6_D, 64, 3, false, 0, false},
+    {"Di, 3 SIDs", false, KAWSARPA_BEHAVIOUR_END_M_GTP6_D_DI, 64, 3, false, 0, false},
+    {"D4, 0 waypoints", true, 0, 24, 0, false, 0, false},
+    {"D4, 2 waypoints", true, 0, 24, 2, false, 0, false},
+    {"E6", false, KAWSARPA_BEHAVIOUR_END_M_GTP6_E, 64, 0, false, 0, false},
+    {"E4", false, KAWSARPA_BEHAVIOUR_END_M_GTP4_E, 48, 0, false, 0, false},
+    {"D, Echo", false, KAWSARPA_BEHAVIOUR_END_M_GTP6_D, 64, 1, true, 0, false},
+    {"D4, Echo", true, 0, 24, 0, true, 0, false},
 };
 const unsigned int kind_count = sizeof kinds / sizeof kinds[0];
+
+const struct kind checksum_kinds[] = {
+    {"D, zero", false, KAWSARPA_BEHAVIOUR_END_M_GTP6_D, 64, 3, false, KAWSARPA_ZERO_CHECKSUM_ALLOW, true},
+    {"D, right", false, KAWSARPA_BEHAVIOUR_END_M_GTP6_D, 64, 3, false, KAWSARPA_ZERO_CHECKSUM_ALLOW, false},
+    {"Di, zero", false, KAWSARPA_BEHAVIOUR_END_M_GTP6_D_DI, 64, 3, false, KAWSARPA_ZERO_CHECKSUM_ALLOW, true},
+    {"Di, right", false, KAWSARPA_BEHAVIOUR_END_M_GTP6_D_DI, 64, 3, false, KAWSARPA_ZERO_CHECKSUM_ALLOW, false},
+    {"Echo, zero", false, KAWSARPA_BEHAVIOUR_END_M_GTP6_D, 64, 1, true, KAWSARPA_ZERO_CHECKSUM_ALLOW, true},
+    {"Echo, right", false, KAWSARPA_BEHAVIOUR_END_M_GTP6_D, 64, 1, true, KAWSARPA_ZERO_CHECKSUM_ALLOW, false},
+};
+const unsigned int checksum_kind_count = sizeof checksum_kinds / sizeof checksum_kinds[0];
 
 const size_t sizes[SIZES] = {64, 164, 1500};
 
@@ -108,11 +118,15 @@ void make_table(const struct kind *kind, unsigned int which, struct table *t)
     struct kawsarpa_rule *r;
     struct kawsarpa_policy *y;
     lay_out(t, kind->ipv4 ? 0 : count, kind->ipv4 ? count : 0, uses_policy(kind), &e, &r, &y);
-    for (unsigned int i = 0; i < count; i++)
-        if (kind->ipv4)
-            set_rule(&r[placed(i, count, shuffled)], kind->segments, i);
-        else
-            set_entry(&e[placed(i, count, shuffled)], kind->behaviour, kind->prefix_length, i);
+    for (unsigned int i = 0; i < count; i++) {
+        const unsigned int place = placed(i, count, shuffled);
+        if (kind->ipv4) {
+            set_rule(&r[place], kind->segments, i);
+        } else {
+            set_entry(&e[place], kind->behaviour, kind->prefix_length, i);
+            e[place].zero_checksum = kind->zero_checksum;
+        }
+    }
     if (uses_policy(kind))
         set_policy(y, kind->segments);
     t->order = shuffled ? "shuffled" : "in order";
@@ -186,6 +200,8 @@ void make_packet(const struct kind *kind, unsigned int records, unsigned int num
     } else if (uses_policy(kind)) {
         put_ipv6(packet, 0, size - IPV6_SIZE, UDP, 64, source, to);
         put_message(kind, packet + IPV6_SIZE, number, size - IPV6_SIZE);
+        if (!kind->zero)
+            put_checksum(packet, size - IPV6_SIZE);
     } else if (kind->behaviour == KAWSARPA_BEHAVIOUR_END_M_GTP4_E) {
         /* no SRH, as D4 without waypoints sends */
         to[P + 4] = (uint8_t)(number << 2);
@@ -203,7 +219,7 @@ void make_packet(const struct kind *kind, unsigned int records, unsigned int num
 
 void make_numbered(bool ipv4, uint8_t *packet, size_t size)
 {
-    const struct kind kind = {"", ipv4, KAWSARPA_BEHAVIOUR_END_M_GTP6_D, 64, 1, false};
+    const struct kind kind = {"", ipv4, KAWSARPA_BEHAVIOUR_END_M_GTP6_D, 64, 1, false, 0, true};
     uint8_t *gtpu = packet + (ipv4 ? IPV4_SIZE : IPV6_SIZE) + UDP_SIZE;
     make_packet(&kind, 1, 0, packet, size);
     gtpu[0] |= 2;

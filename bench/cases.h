@@ -26,10 +26,16 @@ struct kind {
     uint8_t prefix_length; /* of its entries or rules */
     uint8_t segments;      /* SIDs of its policy, waypoints of its rule */
     bool echo;             /* its packets are Echo Requests */
+    uint8_t zero_checksum; /* of its entries: what they do with UDP checksum 0 */
+    bool zero;             /* its packets have UDP checksum 0; else, over IPv6, the right one */
 };
 
 extern const struct kind kinds[];
 extern const unsigned int kind_count;
+
+/* What verifying adds: in pairs, packets with UDP checksum 0 and the same with the right one, both at entries that allow 0. */
+extern const struct kind checksum_kinds[];
+extern const unsigned int checksum_kind_count;
 
 /* Lengths of arriving packets. */
 extern const size_t sizes[SIZES];
