@@ -81,9 +81,9 @@ static bool bad_udp(const uint8_t *udp, size_t size)
 }
 
 /* Row 18. */
-static inline bool bad_checksum(const uint8_t *packet, const uint8_t *udp, size_t size, bool zero_allowed)
+static bool bad_checksum(const uint8_t *packet, const uint8_t *udp, size_t size, bool zero_allowed)
 {
-    return word16(udp + 6) == 0 ? !zero_allowed : udp_sum(packet + 8, udp, size) != 0xFFFF;
+    return word16(udp + 6) == 0 ? !zero_allowed : anchor_udp_sum(packet + 8, udp, size) != 0xFFFF;
 }
 
 /* Rows 10 to 13 of a UDP datagram; 0 if none applies. */
@@ -244,7 +244,8 @@ static uint64_t at_di(const struct kawsarpa_entry *e, const struct kawsarpa_poli
 }
 
 /* End.M.GTP6.E (RFC 9433, 6.5). */
-static uint64_t at_e6(const struct kawsarpa_entry *e, const uint8_t *packet, size_t size, uint8_t *out, size_t room)
+static __attribute__((noinline)) uint64_t at_e6(const struct kawsarpa_entry *e, const uint8_t *packet, size_t size, uint8_t *out,
+                                                size_t room)
 {
     const size_t head = IPV6_SIZE + DATAGRAM_SIZE;
     struct chain c;
@@ -267,7 +268,8 @@ static uint64_t at_e6(const struct kawsarpa_entry *e, const uint8_t *packet, siz
 }
 
 /* End.M.GTP4.E (RFC 9433, 6.6). */
-static uint64_t at_e4(const struct kawsarpa_entry *e, const uint8_t *packet, size_t size, uint8_t *out, size_t room)
+static __attribute__((noinline)) uint64_t at_e4(const struct kawsarpa_entry *e, const uint8_t *packet, size_t size, uint8_t *out,
+                                                size_t room)
 {
     const size_t head = IPV4_SIZE + DATAGRAM_SIZE;
     struct chain c;
@@ -363,8 +365,11 @@ static inline uint64_t behave(const struct kawsarpa_entry *e, const struct kawsa
     }
 }
 
-uint64_t anchor_at_entry(const struct kawsarpa_entry *e, const struct kawsarpa_policy *y, const uint8_t *packet, size_t size, uint8_t *out,
-                         size_t room)
+/* Waypoint, D and Di are expanded in place in both functions, E6 and E4 called. So the compiler chose before there was a
+   checksum, and counts from then can be held against those from now. */
+
+__attribute__((flatten)) uint64_t anchor_at_entry(const struct kawsarpa_entry *e, const struct kawsarpa_policy *y, const uint8_t *packet,
+                                                  size_t size, uint8_t *out, size_t room)
 {
     return malformed(packet, size) ? KAWSARPA_ANSWER_MALFORMED : behave(e, y, packet, size, out, room);
 }
@@ -376,7 +381,8 @@ uint64_t anchor_at_rule(const struct kawsarpa_rule *r, const uint8_t *packet, si
     return bad_header4(packet) ? KAWSARPA_ANSWER_BAD_HEADER4 : at_d4(r, packet, size, out, room);
 }
 
-uint64_t anchor_translate_ipv6(const uint8_t *packet, size_t size, const uint8_t *table, size_t table_len, uint8_t *out, size_t room)
+__attribute__((flatten)) uint64_t anchor_translate_ipv6(const uint8_t *packet, size_t size, const uint8_t *table, size_t table_len,
+                                                        uint8_t *out, size_t room)
 {
     struct anchor_table t;
     if (!anchor_sound(table, table_len, &t))

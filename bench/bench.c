@@ -12,7 +12,9 @@
 #include <stdlib.h>
 #include <string.h>
 
-enum { EIGHT_IN_ORDER = 1 }; /* which table of a kind */
+/* The table of a kind with 8 records in order. */
+enum { EIGHT_IN_ORDER = 1 };
+
 enum { STRIDE = 1600 }; /* an odd number of cache lines, so that packets spread over all sets of a cache */
 
 static uint8_t ring[(size_t)RING * STRIDE], out[OUT_SIZE];

@@ -58,24 +58,16 @@ static inline void put_datagram(uint8_t *udp, const struct kawsarpa_entry *e, co
     udp[22] = (uint8_t)(args[0] >> 2 | reflective);
 }
 
-/* What a UDP checksum over IPv6 is computed over (RFC 8200, 8.1), added up and folded: FFFF where the checksum within is right. Where it is
-   0, what it gives is the complement of the checksum. `addresses` are source and destination. */
-static inline uint16_t udp_sum(const uint8_t *addresses, const uint8_t *udp, size_t size)
-{
-    uint8_t pseudo[4] = {[3] = UDP};
-    put16(pseudo, (uint16_t)size);
-    uint64_t sum = sum_of(addresses, (size_t)2 * ADDRESS) + sum_of(pseudo, sizeof pseudo) + sum_of(udp, size);
-    sum = (sum & 0xFFFFFFFF) + (sum >> 32);
-    sum = (sum & 0xFFFF) + (sum >> 16);
-    sum = (sum & 0xFFFF) + (sum >> 16);
-    return (uint16_t)((sum & 0xFFFF) + (sum >> 16));
-}
+/* The sum of a datagram and its pseudo-header; `addresses` are source and destination. FFFF where the checksum in the datagram is right;
+   where that is 0, the complement of the checksum, as it lies in memory. */
+uint16_t anchor_udp_sum(const uint8_t *addresses, const uint8_t *udp, size_t size);
 
 /* The checksum of a datagram behind an IPv6 header in `out`, in which it is 0: a computed 0 is sent as FFFF. */
 static inline void put_checksum(uint8_t *out, size_t size)
 {
-    const uint16_t checksum = (uint16_t)~udp_sum(out + 8, out + IPV6_SIZE, size);
-    memcpy(out + IPV6_SIZE + 6, &(uint16_t){checksum == 0 ? 0xFFFF : checksum}, sizeof checksum);
+    const uint16_t checksum = (uint16_t)~anchor_udp_sum(out + 8, out + IPV6_SIZE, size);
+    const uint16_t sent = checksum == 0 ? 0xFFFF : checksum;
+    memcpy(out + IPV6_SIZE + 6, &sent, sizeof sent);
 }
 
 /* The reply to an Echo Request. */

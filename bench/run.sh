@@ -13,10 +13,15 @@ flags=(-std=c11 -D_GNU_SOURCE -O3 -g -Wall -Wextra -Wpedantic -Wshadow -Wconvers
 rm -rf "$dir"
 mkdir -p "$dir/dumps"
 
-for name in anchor anchor_table anchor_loss anchor_sequence cases measure bench; do
+anchor=()
+for name in anchor anchor_sum anchor_table anchor_loss anchor_sequence; do
+    gcc "${flags[@]}" -c -o "$dir/$name.o" "$here/$name.c"
+    anchor+=("$dir/$name.o")
+done
+for name in cases measure bench; do
     gcc "${flags[@]}" -c -o "$dir/$name.o" "$here/$name.c"
 done
-gcc -Wl,-z,now -o "$dir/bench" "$dir"/{bench,measure,cases,anchor,anchor_table,anchor_loss,anchor_sequence}.o "$lib"
+gcc -Wl,-z,now -o "$dir/bench" "$dir"/{bench,measure,cases}.o "${anchor[@]}" "$lib"
 
 # The anchor counts only if it agrees: the lines that tests/c/vectors.sh puts to the library, put to the anchor under its names.
 renamed=()
@@ -24,8 +29,7 @@ for name in translate_ipv6 translate_ipv4 loss_offer sequence_ipv6 sequence_ipv4
     renamed+=("-Dkawsarpa_$name=anchor_$name")
 done
 # The anchor has no test whether tables fit: there the library is linked, and no line below asks for it.
-gcc "${flags[@]}" "${renamed[@]}" -o "$dir/agree" "$here/../tests/c/vectors.c" "$dir"/{anchor,anchor_table,anchor_loss,anchor_sequence}.o \
-    "$lib"
+gcc "${flags[@]}" "${renamed[@]}" -o "$dir/agree" "$here/../tests/c/vectors.c" "${anchor[@]}" "$lib"
 {
     echo "The anchor judged by the second program"
     "$second" vectors --seed 1 --per-kind 2000 | "$dir/agree"
