@@ -4,6 +4,7 @@ A case is (kind, octets, records, order, load); its subjects are memcpy, bare, a
 kind is the arrival and the records are rows; of a reader of sequence numbers, load "reader", the kind is IPv6 or IPv4."""
 import collections
 import glob
+import os
 import re
 import subprocess
 
@@ -23,6 +24,13 @@ def read_times(name):
             fields = line.rstrip("\n").split("|")
             times[case(fields[:5])] = {subject: float(ns) for subject, ns in (f.split("=") for f in fields[5:])}
     return times
+
+
+def read_before():
+    """Instructions from before the UDP checksum, by case and subject."""
+    with open(os.path.join(os.path.dirname(os.path.abspath(__file__)), "before.txt")) as lines:
+        rows = [line.rstrip("\n").split("|") for line in lines if not line.startswith("#")]
+    return {case(row[:5]): {subject: int(n) for subject, n in (f.split("=") for f in row[5:])} for row in rows}
 
 
 def read_dump(name):

@@ -1,21 +1,43 @@
 #!/usr/bin/env python3
 """report.py TIMES DUMPS PROGRAM: the figures of `make bench` as text.
 
-Status 1 if the anchor, without a table or at an offer, is over its limits: then it is no measure for the library."""
+Status 1 if the anchor, without a table or at an offer, is over its limits: then it is no measure for the library.
+
+What a UDP checksum adds is a difference of two counts: of packets with the right checksum and with 0, or of calls now and before there was
+one (before.txt)."""
 import collections
 import sys
 
 import figures
 
-# Instructions of D with three SIDs without a table, by octets that arrive, and of the offer of a new number, by rows.
-LIMITS = {164: 260, 1500: 400}
+# Instructions of D with three SIDs without a table, by octets that arrive: with UDP checksum 0, which is not verified, and with the right
+# one; and of the offer of a new number, by rows.
+UNVERIFIED_LIMITS = {164: 260, 1500: 400}
+VERIFIED_LIMITS = {164: 390, 1500: 990}
 OFFER_LIMITS = {1: 38, 16: 173, 256: 2333}
 
 DI_164 = ("Di, 3 SIDs", 164, 8, "in order", "hot")
 DI_1500 = ("Di, 3 SIDs", 1500, 8, "in order", "hot")
 FULL = ("full", 0, 64, "in order", "soundness")
 D4 = ("D4, 2 waypoints", 164, 8, "in order", "hot")
+E6_1500 = ("E6", 1500, 8, "in order", "hot")
 READER = ("IPv6", 164, 0, "-", "reader")
+
+# What a checksum adds: what, and the kinds without and with it. Where both are one, without it is before there was one.
+D_VERIFIED = ("D, verified", "D, zero", "D, right")
+DI_VERIFIED = ("Di, verified", "Di, zero", "Di, right")
+E6_IN_ALL = ("E6, in all", "E6", "E6")
+ADDED = [
+    D_VERIFIED,
+    DI_VERIFIED,
+    ("Echo, verified", "Echo, zero", "Echo, right"),
+    ("D, in all", "D, 3 SIDs", "D, 3 SIDs"),
+    ("Di, in all", "Di, 3 SIDs", "Di, 3 SIDs"),
+    ("Echo, in all", "D, Echo", "D, Echo"),
+    E6_IN_ALL,
+]
+SIZES = (64, 164, 1500)
+PAIRED = {kind for _, without, right in ADDED if without != right for kind in (without, right)}
 
 ARRIVALS = ("new", "repeated", "late", "row taken", "no row free")
 
@@ -36,12 +58,15 @@ TARGETS = [
     *((f"offer at {said(rows)}, {arrival}", offer(arrival, rows), 1.25) for rows in OFFER_LIMITS for arrival in ARRIVALS),
 ]
 
+# And of what a checksum adds at 1,500 octets: at D, Di and E6.
+ADDED_MOST = 1.5
+
 # Functions of the measuring program, which are not what is measured.
 CALLERS = ("measure_instructions", "measure_offer_instructions", "library_soundness", "anchor_soundness", "library_reader6",
            "anchor_reader6")
 
 # Of these cases the instructions are shown by function.
-TAKEN_APART = [DI_164, DI_1500, D4, FULL, offer("new", 256), offer("no row free", 256), READER]
+TAKEN_APART = [DI_164, DI_1500, E6_1500, D4, FULL, offer("new", 256), offer("no row free", 256), READER]
 
 
 def beside(c, t):
@@ -66,7 +91,7 @@ def print_calls(counts, times):
           f"{'memcpy':>7}{'anchor':>9}{'library':>9}{'l/a':>6}{'l/m':>8}")
     for where in times:
         kind, octets, records, order, load = where
-        if load != "hot":
+        if load != "hot" or kind in PAIRED:
             continue
         c, h, r = counts[where], times[where], times[where[:4] + ("ring",)]
         print(f"{kind:15}{octets:>7}{records:>9}{order:>10}  |"
@@ -76,6 +101,34 @@ def print_calls(counts, times):
               f"{h['library'] / h['memcpy']:>8.1f} |"
               f"{r['memcpy']:>7.1f}{r['anchor']:>9.1f}{r['library']:>9.1f}{r['library'] / r['anchor']:>6.2f}"
               f"{r['library'] / r['memcpy']:>8.1f}")
+
+
+def with_and_without(measured, before, without, right, octets, load):
+    """The figures of a case without a checksum, or from before, and with it."""
+    case = (octets, 8, "in order", load)
+    return (before if without == right else measured)[(without, *case)], measured[(right, *case)]
+
+
+def print_added(counts, before, times):
+    print("\nWhat the UDP checksum over IPv6 adds, with 8 entries in order. Verified: packets with the right one, beside the same with 0, both at")
+    print("entries that allow 0. In all: beside what was counted before there was a checksum (before.txt).\n")
+    heads = f"{'without':>9}{'with':>7}{'adds':>7} |"
+    print(f"{'':24}|{'anchor, instructions':^24}|{'library, instructions':^24}|{'adds':^6}|{'hot, ns':^20} |{'ring, ns':^20}")
+    print(f"{'checksum':16}{'octets':>7} |{heads}{heads}{'l/a':>5} |" + " |".join([f"{'anchor':>7}{'library':>8}{'l/a':>5}"] * 2))
+    for what, without, right in ADDED:
+        for octets in SIZES:
+            c0, c1 = with_and_without(counts, before, without, right, octets, "hot")
+            added = {subject: c1[subject] - c0[subject] for subject in ("anchor", "library")}
+            line = f"{what:16}{octets:>7} |" + "".join(f"{c0[s]:>9}{c1[s]:>7}{added[s]:>7} |" for s in added)
+            line += f"{added['library'] / added['anchor']:>5.2f} |"
+            if without != right:
+                cells = []
+                for load in ("hot", "ring"):
+                    t0, t1 = with_and_without(times, None, without, right, octets, load)
+                    a, l = (t1[subject] - t0[subject] for subject in ("anchor", "library"))
+                    cells.append(f"{a:>7.1f}{l:>8.1f}" + (f"{l / a:>5.2f}" if a > 0 else f"{'-':>5}"))
+                line += " |".join(cells)
+            print(line)
 
 
 def print_soundness(counts, times):
@@ -105,7 +158,7 @@ def print_offers(counts, times):
 
 def print_packets(times):
     print("\nMillions of packets a second on one core, ring, records in order: memcpy, anchor, library\n")
-    kinds = list(dict.fromkeys(where[0] for where in times if where[4] == "ring"))
+    kinds = list(dict.fromkeys(where[0] for where in times if where[4] == "ring" and where[0] not in PAIRED))
     for octets in (164, 1500):
         print(f"{f'{octets} octets':16}" + "".join(f"{n:>26}" for n in ("1 record", "8 records", "64 records (D4: 16)")))
         for kind in kinds:
@@ -133,12 +186,19 @@ def print_parts(counts, executed, functions):
                 print(f"{left:>7}  memcpy and memmove of the C library")
 
 
-def print_targets(counts):
+def print_target(name, library, anchor, most):
+    of = library / anchor
+    print(f"  {name}: {library} / {anchor} = {of:.2f}, at most {most}: {'holds' if of <= most else 'does not hold'}")
+
+
+def print_targets(counts, before):
     print("\nTargets, by instructions, library to anchor")
     for name, where, most in TARGETS:
-        c = counts[where]
-        of = c["library"] / c["anchor"]
-        print(f"  {name}: {c['library']} / {c['anchor']} = {of:.2f}, at most {most}: {'holds' if of <= most else 'does not hold'}")
+        print_target(name, counts[where]["library"], counts[where]["anchor"], most)
+    for what, without, right in (D_VERIFIED, DI_VERIFIED, E6_IN_ALL):
+        c0, c1 = with_and_without(counts, before, without, right, 1500, "hot")
+        library, anchor = (c1[subject] - c0[subject] for subject in ("library", "anchor"))
+        print_target(f"what a UDP checksum adds at 1,500 octets, {what}", library, anchor, ADDED_MOST)
 
 
 def within(what, instructions, most):
@@ -148,8 +208,9 @@ def within(what, instructions, most):
 
 def check_anchor(counts):
     print("\nThe anchor without a table, D with three SIDs")
-    well = [within(f"{octets} octets", counts[("D, 3 SIDs", octets, 1, "in order", "hot")]["bare"], most)
-            for octets, most in LIMITS.items()]
+    well = [within(f"{octets} octets, checksum {said}", counts[(kind, octets, 8, "in order", "hot")]["bare"], most)
+            for kind, said, limits in (("D, zero", "0", UNVERIFIED_LIMITS), ("D, right", "verified", VERIFIED_LIMITS))
+            for octets, most in limits.items()]
     print("\nThe anchor's offer of a new number")
     well += [within(said(rows), counts[offer("new", rows)]["anchor"], most) for rows, most in OFFER_LIMITS.items()]
     return all(well)
@@ -160,12 +221,14 @@ def main():
         sys.exit("usage: report.py TIMES DUMPS PROGRAM")
     times = figures.read_times(sys.argv[1])
     counts, executed = figures.read_counts(sys.argv[2])
+    before = figures.read_before()
     print_calls(counts, times)
+    print_added(counts, before, times)
     print_soundness(counts, times)
     print_offers(counts, times)
     print_packets(times)
     print_parts(counts, executed, figures.functions(sys.argv[3]))
-    print_targets(counts)
+    print_targets(counts, before)
     return 0 if check_anchor(counts) else 1
 
 
