@@ -110,11 +110,11 @@ def with_and_without(measured, before, without, right, octets, load):
 
 
 def print_added(counts, before, times):
-    print("\nWhat the UDP checksum over IPv6 adds, with 8 entries in order. Verified: packets with the right one, beside the same with 0, both at")
-    print("entries that allow 0. In all: beside what was counted before there was a checksum (before.txt).\n")
+    print("\nWhat the UDP checksum over IPv6 adds, with 8 entries in order. Verified: packets with the right one, beside the same with 0,")
+    print("both at entries that allow 0. In all: beside what was counted before there was a checksum (before.txt).\n")
     heads = f"{'without':>9}{'with':>7}{'adds':>7} |"
-    print(f"{'':24}|{'anchor, instructions':^24}|{'library, instructions':^24}|{'adds':^6}|{'hot, ns':^20} |{'ring, ns':^20}")
-    print(f"{'checksum':16}{'octets':>7} |{heads}{heads}{'l/a':>5} |" + " |".join([f"{'anchor':>7}{'library':>8}{'l/a':>5}"] * 2))
+    print(f"{'':24}|{'anchor, instructions':^24}|{'library, instructions':^24}|{'adds':^6}|{'hot, adds ns':^21} |{'ring, adds ns':^21}")
+    print(f"{'checksum':16}{'octets':>7} |{heads}{heads}{'l/a':>5} |" + " |".join([f"{'anchor':>7}{'library':>8}{'l/a':>6}"] * 2))
     for what, without, right in ADDED:
         for octets in SIZES:
             c0, c1 = with_and_without(counts, before, without, right, octets, "hot")
@@ -126,7 +126,7 @@ def print_added(counts, before, times):
                 for load in ("hot", "ring"):
                     t0, t1 = with_and_without(times, None, without, right, octets, load)
                     a, l = (t1[subject] - t0[subject] for subject in ("anchor", "library"))
-                    cells.append(f"{a:>7.1f}{l:>8.1f}" + (f"{l / a:>5.2f}" if a > 0 else f"{'-':>5}"))
+                    cells.append(f"{a:>7.1f}{l:>8.1f}" + (f"{l / a:>6.2f}" if min(a, l) > 0 else f"{'-':>6}"))
                 line += " |".join(cells)
             print(line)
 
