@@ -1,7 +1,7 @@
 -- The worked packets with a star (docs/RULES.md, Worked packets): rows of one list, under one claim about the definitions.
 use mathlib.Core.Bool.{Bool, true, false, _&&_}
 use mathlib.Core.List.{List, [], _∷_, _++_}
-use Prim.Native.Nat.{ℕ}
+use Prim.Native.Nat.{ℕ, _+_}
 use lib.Dec.{T, eqb}
 use lib.ListN.{length, take, replicate}
 use Rattle.rules.specs.Assigned.{endMGtp6D, endMGtp6DDi, ipv6Protocol, routingHeader, downlink, uplink}
@@ -9,8 +9,8 @@ use Rattle.rules.specs.Ipv6 as Ipv6
 use Rattle.rules.specs.Ipv6.{ipv6}
 use Rattle.rules.specs.Ipv4.{ipv4}
 use Rattle.rules.specs.Srh.{srh}
-use Rattle.rules.specs.Gtpu.{udp}
-use Rattle.rules.specs.Octets.{put16}
+use Rattle.rules.specs.Gtpu.{udp, datagramOctets}
+use Rattle.rules.specs.Octets.{put16, splice}
 use Rattle.rules.specs.Args.{argsOctets, argsAt, withArgs}
 use Rattle.rules.specs.Answer.{Outcome, Sent, Refused, verdict}
 use Rattle.rules.specs.Datagram.{datagram, messageRows, gPduRows}
@@ -22,7 +22,7 @@ use Rattle.rules.specs.declared.Verdict.{Verdict}
 use Rattle.rules.specs.declared.Verdict.the-variants.{Pass, Refuse}
 use Rattle.rules.proofs.Computing.{computing}
 use Rattle.rules.proofs.Samples as Samples
-use Rattle.rules.proofs.Samples.{sidOf, gateway6, argsOf, table, values4, packet6}
+use Rattle.rules.proofs.Samples.{sidOf, gateway6, argsOf, table, values4}
 
 pub record Example : Type 0 where
   pub got : List ℕ
@@ -127,6 +127,13 @@ reply4 =
     0x45 ∷ 0x2e ∷ 0x00 ∷ 0x2a ∷ 0x00 ∷ 0x00 ∷ 0x40 ∷ 0x00 ∷ 0x40 ∷ 0x11 ∷ 0x4e ∷ 0x59
     ∷ 0xc0 ∷ 0x00 ∷ 0x02 ∷ 0x01 ∷ 0xc6 ∷ 0x33 ∷ 0x64 ∷ 0x07 ∷ echoReply 0
 
+-- the longest inner packets have the checksum 0, at a table that allows it: their sums would be a sixth of what this crate takes to check
+abbrev pub zeroAllowed : (waypoints : ℕ) → List ℕ
+zeroAllowed waypoints = splice (table endMGtp6D waypoints) 25 (1 ∷ [])
+
+abbrev pub zeroChecksum : (inner : List ℕ) → List ℕ
+zeroChecksum inner = ipv6 0x2e (24 + length inner) 17 64 (sidOf 0x63) gateway6 (datagramOctets 2152 downlink 0 (argsOf 9 1) inner)
+
 abbrev pub args9 : List ℕ
 args9 = 0x26 ∷ 0x01 ∷ 0x02 ∷ 0x03 ∷ 0x04 ∷ []
 
@@ -175,8 +182,8 @@ examples =
     ∷ is (octetsOf (translate4 echo4 (table endMGtp6D 2) 42)) reply4
     ∷ is (answer (translate4 echo4 (table endMGtp6D 0) 41)) (16 ∷ 0 ∷ 0 ∷ 0 ∷ 0 ∷ [])
     -- the longest inner packet past eight SIDs
-    ∷ is (call (packet6 (replicate 65399 0)) (table endMGtp6D 7) 66000) (sent 65575)
-    ∷ is (call (packet6 (replicate 65400 0)) (table endMGtp6D 7) 66000) (15 ∷ 0 ∷ 0 ∷ 0 ∷ 0 ∷ [])
+    ∷ is (call (zeroChecksum (replicate 65399 0)) (zeroAllowed 7) 66000) (sent 65575)
+    ∷ is (call (zeroChecksum (replicate 65400 0)) (zeroAllowed 7) 66000) (15 ∷ 0 ∷ 0 ∷ 0 ∷ 0 ∷ [])
     ∷ []
 
 pub worked : T (right examples)
