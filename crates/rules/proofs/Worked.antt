@@ -127,7 +127,7 @@ reply4 =
     0x45 ∷ 0x2e ∷ 0x00 ∷ 0x2a ∷ 0x00 ∷ 0x00 ∷ 0x40 ∷ 0x00 ∷ 0x40 ∷ 0x11 ∷ 0x4e ∷ 0x59
     ∷ 0xc0 ∷ 0x00 ∷ 0x02 ∷ 0x01 ∷ 0xc6 ∷ 0x33 ∷ 0x64 ∷ 0x07 ∷ echoReply 0
 
--- the longest inner packets have the checksum 0, at a table that allows it: their sums would be a sixth of what this crate takes to check
+-- the longest inner packets have the checksum 0, at a table that allows it: to sum them takes about a second of each check
 abbrev pub zeroAllowed : (waypoints : ℕ) → List ℕ
 zeroAllowed waypoints = splice (table endMGtp6D waypoints) 25 (1 ∷ [])
 
