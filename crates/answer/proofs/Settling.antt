@@ -1,7 +1,8 @@
 -- What a call has to show of its answer and its buffer, from the verdict and the room.
 use mathlib.Core.Path.{_≡_, refl, sym, ap, _∙_}
 use mathlib.Core.List.{List}
-use Prim.Native.Nat.{ℕ, _≤_, _<_}
+use Prim.Native.Nat.{ℕ, _/_, _≤_, _<_}
+use native.Mathlib.Omega.{arith}
 use lib.ListN.{length}
 use borrow.Author.Tests.{lt-ltb}
 use Rattle.rules.specs.Answer.{Row, plain, verdict, Outcome, Sent, Refused, after, unless, settle, overlay, packed, packedFields}
@@ -10,7 +11,7 @@ use Rattle.rules.specs.declared.Verdict.{Verdict}
 use Rattle.rules.specs.declared.Verdict.the-variants.{Pass, Refuse}
 use Rattle.rules.proofs.Rows.{settle-sent}
 use Rattle.answer.specs.declared.Answer.{Answer}
-use Rattle.answer.specs.Answered.{answerOf, Answered}
+use Rattle.answer.specs.Answered.{answerOf, Answered, Packs}
 
 -- an answer that was packed is the outcome, packed
 pub packed-answer : (o : Outcome) → packedFields (answerOf o .number) (answerOf o .icmpType) (answerOf o .icmpCode) (answerOf o .pointer)
@@ -18,6 +19,22 @@ pub packed-answer : (o : Outcome) → packedFields (answerOf o .number) (answerO
 unfolding packed
 packed-answer (Sent x) = refl
 packed-answer (Refused r) = refl
+
+-- the length that a packed answer holds; each of the fields in front of it is within its bits
+packed-size : (number icmpType icmpCode pointer size : ℕ) → number < 256 → icmpType < 256 → icmpCode < 256 → pointer < 65536
+    → packedFields number icmpType icmpCode pointer size / 0x10000000000 ≡ size
+packed-size number icmpType icmpCode pointer size h₁ h₂ h₃ h₄ = omega arith
+
+-- an answer, packed
+pub answered-packed : (o : Outcome) (b b′ : List ℕ) (a : Answer) (w : ℕ) → Answered o b a b′
+    → a .number < 256 → a .icmpType < 256 → a .icmpCode < 256 → a .pointer < 65536
+    → w ≡ packedFields (a .number) (a .icmpType) (a .icmpCode) (a .pointer) (a .size) → Packs o b w b′
+answered-packed o b b′ a w r h₁ h₂ h₃ h₄ e = record {
+  tells = e ∙ ap (λ (a : Answer). packedFields (a .number) (a .icmpType) (a .icmpCode) (a .pointer) (a .size)) (r .tells) ∙ packed-answer o;
+  size = ap (λ (w : ℕ). w / 0x10000000000) e ∙ packed-size _ _ _ _ _ h₁ h₂ h₃ h₄ ∙ ap (λ (a : Answer). a .size) (r .tells);
+  holds = r .holds;
+  small = rw (← ap (λ (a : Answer). a .size) (r .tells)) (r .small);
+}
 
 -- refused: the buffer stays
 pub answered-refused : (o : Outcome) (ρ : Refusal) (b : List ℕ) (a : Answer) → o ≡ Refused ρ → (a ≡ answerOf (Refused ρ)) ×

@@ -1,10 +1,10 @@
 -- What a call leaves behind: its answer, and its output buffer.
 use mathlib.Core.Path.{_≡_}
 use mathlib.Core.List.{List}
-use Prim.Native.Nat.{ℕ, _+_, _-_, _≤_, _<_}
+use Prim.Native.Nat.{ℕ, _+_, _-_, _/_, _≤_, _<_}
 use lib.ListN.{length, drop}
 use Rattle.rules.specs.Octets.{splice}
-use Rattle.rules.specs.Answer.{Outcome, Sent, Refused, plain, overlay}
+use Rattle.rules.specs.Answer.{Outcome, Sent, Refused, plain, overlay, packed}
 use Rattle.answer.specs.declared.Answer.{Answer}
 
 -- the answer to an outcome
@@ -17,6 +17,13 @@ pub record Answered (o : Outcome) (before : List ℕ) (answer : Answer) (after :
   pub tells : answer ≡ answerOf o
   pub holds : after ≡ overlay o before
   pub small : answer .size < 65700
+
+-- the same, with the answer in one number, from which the length can be read
+pub record Packs (o : Outcome) (before : List ℕ) (answer : ℕ) (after : List ℕ) : Type 0 where
+  pub tells : answer ≡ packed o
+  pub size : answer / 0x10000000000 ≡ answerOf o .size
+  pub holds : after ≡ overlay o before
+  pub small : answerOf o .size < 65700
 
 -- row 16 was asked, and where there is room the octets of p from a place on stand in o′ behind room for a head of `before` octets
 pub record Placed (before place : ℕ) (p o : List ℕ) (answer : Answer) (o′ : List ℕ) : Type 0 where

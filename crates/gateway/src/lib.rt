@@ -16,7 +16,7 @@ ghost use Rattle.rules.specs.Answer.{settle};
 ghost use Rattle.rules.specs.Header.{WellFormed};
 ghost use Rattle.rules.specs.Header4.{WellFormed4};
 ghost use Rattle.rules.specs.Calls.{atEntry, translate6, translate4};
-ghost use Rattle.answer.specs.Answered.{Answered};
+ghost use Rattle.answer.specs.Answered.{Answered, Packs};
 ghost use Rattle.gateway.specs.Decided.{Matched, Decides6, Decides4, Matches6, Matches4};
 
 // An IPv4 header without options.
@@ -104,6 +104,17 @@ pub fn translate_ipv6_sound(packet: &[u8], table: &[u8], out: &mut [u8]) -> Deci
     at_match(table, h, front, packet, out)
 }
 
+// The same, answered in one number: the single call and the burst both call this, with everything below it expanded in place.
+pub fn packed_ipv6_sound(packet: &[u8], table: &[u8], out: &mut [u8]) -> u64
+    requires { ⌜ sound (now table) ≡ true ⌝ }
+    ensures { λ r. ⌜ Packs (translate6 (now (packet .entry)) (now (table .entry)) (length (now (out .entry)))) (now (out .entry)) r
+        (now (out .exit)) ⌝ }
+{
+    let decided = translate_ipv6_sound(packet, table, out);
+    let a = decided.answer;
+    a.pack()
+}
+
 // An IPv6 packet.
 pub fn translate_ipv6(packet: &[u8], table: &[u8], out: &mut [u8]) -> Answer
     ensures { λ a. ⌜ Answered (translate6 (now (packet .entry)) (now (table .entry)) (length (now (out .entry)))) (now (out .entry)) a
@@ -114,6 +125,17 @@ pub fn translate_ipv6(packet: &[u8], table: &[u8], out: &mut [u8]) -> Answer
     }
     let decided = translate_ipv6_sound(packet, table, out);
     decided.answer
+}
+
+// The same, answered in one number.
+pub fn packed_ipv6(packet: &[u8], table: &[u8], out: &mut [u8]) -> u64
+    ensures { λ r. ⌜ Packs (translate6 (now (packet .entry)) (now (table .entry)) (length (now (out .entry)))) (now (out .entry)) r
+        (now (out .exit)) ⌝ }
+{
+    if !table::sound(table) {
+        return Answer::refused(Refusal::unsound()).pack();
+    }
+    packed_ipv6_sound(packet, table, out)
 }
 
 // The longest match of the destination among the rules, then the rule found.
@@ -164,6 +186,17 @@ pub fn translate_ipv4_sound(packet: &[u8], table: &[u8], out: &mut [u8]) -> Deci
     at_match4(table, h, packet, out)
 }
 
+// The same, answered in one number: the single call and the burst both call this, with everything below it expanded in place.
+pub fn packed_ipv4_sound(packet: &[u8], table: &[u8], out: &mut [u8]) -> u64
+    requires { ⌜ sound (now table) ≡ true ⌝ }
+    ensures { λ r. ⌜ Packs (translate4 (now (packet .entry)) (now (table .entry)) (length (now (out .entry)))) (now (out .entry)) r
+        (now (out .exit)) ⌝ }
+{
+    let decided = translate_ipv4_sound(packet, table, out);
+    let a = decided.answer;
+    a.pack()
+}
+
 // An IPv4 packet.
 pub fn translate_ipv4(packet: &[u8], table: &[u8], out: &mut [u8]) -> Answer
     ensures { λ a. ⌜ Answered (translate4 (now (packet .entry)) (now (table .entry)) (length (now (out .entry)))) (now (out .entry)) a
@@ -174,4 +207,15 @@ pub fn translate_ipv4(packet: &[u8], table: &[u8], out: &mut [u8]) -> Answer
     }
     let decided = translate_ipv4_sound(packet, table, out);
     decided.answer
+}
+
+// The same, answered in one number.
+pub fn packed_ipv4(packet: &[u8], table: &[u8], out: &mut [u8]) -> u64
+    ensures { λ r. ⌜ Packs (translate4 (now (packet .entry)) (now (table .entry)) (length (now (out .entry)))) (now (out .entry)) r
+        (now (out .exit)) ⌝ }
+{
+    if !table::sound(table) {
+        return Answer::refused(Refusal::unsound()).pack();
+    }
+    packed_ipv4_sound(packet, table, out)
 }

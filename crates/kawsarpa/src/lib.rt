@@ -4,7 +4,9 @@ ghost use mathlib.Core.Path.{_≡_};
 ghost use lib.ListN.{length};
 ghost use Rattle.rules.specs.Answer.{packed, overlay};
 ghost use Rattle.rules.specs.Calls.{translate6, translate4};
+ghost use Rattle.rules.specs.Trip.{v6, v4};
 ghost use Rattle.rules.specs.Fault.{fault};
+ghost use Rattle.burst.specs.Burst.{burst, answered};
 ghost use Rattle.loss.specs.Loss.{offer};
 ghost use Rattle.sequence.specs.Sequence.{sequence6, sequence4};
 ghost use Rattle.pair.specs.Mismatch.{mismatch6, mismatch4, mismatchWaypoint};
@@ -16,7 +18,7 @@ pub extern "C" fn kawsarpa_translate_ipv6(packet: &[u8], table: &[u8], out: &mut
         × (now (out .exit) ≡ overlay (translate6 (now (packet .entry)) (now (table .entry)) (length (now (out .entry)))) (now (out .entry)))
         ⌝ }
 {
-    gateway::translate_ipv6(packet, table, out).pack()
+    gateway::packed_ipv6(packet, table, out)
 }
 
 // The IPv4 call.
@@ -26,7 +28,7 @@ pub extern "C" fn kawsarpa_translate_ipv4(packet: &[u8], table: &[u8], out: &mut
         × (now (out .exit) ≡ overlay (translate4 (now (packet .entry)) (now (table .entry)) (length (now (out .entry)))) (now (out .entry)))
         ⌝ }
 {
-    gateway::translate_ipv4(packet, table, out).pack()
+    gateway::packed_ipv4(packet, table, out)
 }
 
 // The IPv6 call, for a box that is only a waypoint.
@@ -37,6 +39,45 @@ pub extern "C" fn kawsarpa_waypoint(packet: &[u8], table: &[u8], out: &mut [u8])
         ⌝ }
 {
     kawsarpa_translate_ipv6(packet, table, out)
+}
+
+// A burst of IPv6 packets, and of IPv4 packets, which lie one after the other with their lengths.
+#[no_mangle]
+pub extern "C" fn kawsarpa_burst_ipv6(
+    packets: &[u8],
+    lengths: &[u32],
+    table: &[u8],
+    out: &mut [u8],
+    answers: &mut [u64],
+) -> u64
+    ensures { λ r. ⌜ (r ≡ packed (burst v6 (now (lengths .entry)) (now (packets .entry)) (now (table .entry)) (length (now (out .entry)))
+        (length (now (answers .entry)))))
+        × (now (out .exit) ≡ overlay (burst v6 (now (lengths .entry)) (now (packets .entry)) (now (table .entry)) (length (now (out .entry)))
+        (length (now (answers .entry)))) (now (out .entry)))
+        × (now (answers .exit) ≡ answered v6 (now (lengths .entry)) (now (packets .entry)) (now (table .entry)) (length (now (out .entry)))
+        (now (answers .entry)))
+        ⌝ }
+{
+    burst::burst_ipv6(packets, lengths, table, out, answers)
+}
+
+#[no_mangle]
+pub extern "C" fn kawsarpa_burst_ipv4(
+    packets: &[u8],
+    lengths: &[u32],
+    table: &[u8],
+    out: &mut [u8],
+    answers: &mut [u64],
+) -> u64
+    ensures { λ r. ⌜ (r ≡ packed (burst v4 (now (lengths .entry)) (now (packets .entry)) (now (table .entry)) (length (now (out .entry)))
+        (length (now (answers .entry)))))
+        × (now (out .exit) ≡ overlay (burst v4 (now (lengths .entry)) (now (packets .entry)) (now (table .entry)) (length (now (out .entry)))
+        (length (now (answers .entry)))) (now (out .entry)))
+        × (now (answers .exit) ≡ answered v4 (now (lengths .entry)) (now (packets .entry)) (now (table .entry)) (length (now (out .entry)))
+        (now (answers .entry)))
+        ⌝ }
+{
+    burst::burst_ipv4(packets, lengths, table, out, answers)
 }
 
 // The first condition of soundness that a table breaks; 0 exactly when the table is sound.

@@ -180,6 +180,13 @@ impl Refusal {
     {
         Refusal::plain(18)
     }
+
+    // Row 19. A burst of over 32 lengths, whose lengths do not add up to the input, or with too few places for answers.
+    pub fn bad_burst() -> Refusal
+        ensures { λ r. ⌜ r ≡ plain 19 ⌝ }
+    {
+        Refusal::plain(19)
+    }
 }
 
 // What rows of the answer table say of a packet.

@@ -1,0 +1,66 @@
+use borrow.Author.Tests.{not-true, not-false}
+use Rattle.burst.specs.Serving.{versionOf}
+use Rattle.burst.proofs.Laws.{fit}
+use Rattle.burst.proofs.Wholes.{packed-named, whole-refused, whole-unsound, whole-served}
+use Rattle.rules.specs.Answer.{plain}
+use native.Mathlib.Omega.{arith}
+use denote.Ref.{now}
+use lib.ListN.{length}
+use mathlib.Core.Path.{sym, _∙_}
+use borrow.Author.Needs.{needs}
+use Rattle.burst.proofs.burst.Statement.{statement}
+use Rattle.burst.proofs.burst.Tie as tie
+
+returns : tie.Need-returns
+returns c =
+    let u = sym (c .before .before .before .before .is-unfit .ensures) ∙ c .before .before .before .if1 .taken in
+    whole-refused _ _ _ _ _ _ _ u (packed-named (plain 19) _ _ _ (c .before .before .bad-burst .ensures) (c .before .refused .ensures .0)
+    (c .pack .ensures))
+
+fill-requires : tie.Need-fill-requires
+fill-requires c κs =
+    let a = c .before .before .before .before .before .before .before .before .before .before .before .before .before .args in
+    let f = sym (c .before .before .before .before .before .before .before .is-unfit .ensures) ∙ c .before .before .before .before .before .before .if1 .left in
+    fit (now (a .lengths)) (now (a .packets)) (length (now (a .answers))) f .placed
+
+returns-2 : tie.Need-returns-2
+returns-2 c =
+    let f = sym (c .before .before .before .before .before .before .before .before .before .before .before .is-unfit .ensures) ∙ c .before .before .before .before .before .before .before .before .before .before .if1 .left in
+    let u = sym (c .before .before .before .before .before .before .before .before .before .sound .ensures) ∙ not-true _ (c .before .before .before .before .before .before .before .before .if2 .taken) in
+    whole-unsound _ _ _ _ _ _ _ f u _ _
+    (packed-named (plain 1) _ _ _ (c .before .before .before .before .before .before .unsound .ensures) (c .before .before .before .before .before .refused2 .ensures .0) (c .before .before .before .before .pack2 .ensures))
+    (c .before .before .before .fill .ensures) (c .sent .ensures)
+
+serve-requires : tie.Need-serve-requires
+serve-requires c κs = (
+  fit _ _ _ (sym (c .before .before .before .before .before .is-unfit .ensures) ∙ c .before .before .before .before .if1 .left),
+  sym (c .before .before .before .sound .ensures) ∙ not-false _ (c .before .before .if2 .left),
+)
+
+returns-3 : tie.Need-returns-3
+returns-3 c =
+    let f = sym (c .before .before .before .before .before .before .before .before .before .before .before .is-unfit .ensures) ∙ c .before .before .before .before .before .before .before .before .before .before .if1 .left in
+    whole-served _ _ _ _ _ _ _ f _ _ _ (c .before .before .before .before .before .serve .ensures) (c .sent2 .ensures)
+
+pub burst-spec : {M : Type 1} → statement M
+burst-spec =
+    tie.close
+    (tie.spec
+    (λ c κs. search needs)
+    (λ c κs. search needs)
+    (λ c κs. search needs)
+    (λ c κs. search needs)
+    returns
+    (λ c κs. search needs)
+    (λ c κs. search needs)
+    (λ c κs. search needs)
+    (λ c κs. search needs)
+    fill-requires
+    (λ c κs. search needs)
+    (λ c. search needs)
+    returns-2
+    serve-requires
+    (λ c κs. search needs)
+    (λ c. search needs)
+    (λ c. search needs)
+    returns-3)
