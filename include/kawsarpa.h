@@ -7,12 +7,12 @@
  *     if (kawsarpa_answer_number(answer) == KAWSARPA_ANSWER_SENT)
  *         send_on(out, kawsarpa_answer_length(answer));
  *
- * kawsarpa_table_fault says of a table, before it is used, which condition it breaks, if any. kawsarpa_match_ipv6, _ipv4 and
- * _waypoint say of the tables of both ends, and of those between, whether they fit. kawsarpa_loss_offer counts the sequence numbers
- * that were lost on the way, for the stations that send them.
+ * kawsarpa_burst_ipv6 and _ipv4 take up to 32 packets a call. kawsarpa_table_fault says of a table, before it is used, which condition
+ * it breaks, if any. kawsarpa_match_ipv6, _ipv4 and _waypoint say of the tables of both ends, and of those between, whether they fit.
+ * kawsarpa_loss_offer counts the sequence numbers that were lost on the way, for the stations that send them.
  *
- * The parts of this file: the version, the calls, what they answer, lost sequence numbers, the faults of a table, tables that fit, the
- * octets of a table. The library is for x86-64.
+ * The parts of this file: the version, the calls, what they answer, bursts, lost sequence numbers, the faults of a table, tables that
+ * fit, the octets of a table. The library is for x86-64.
  */
 #ifndef KAWSARPA_H
 #define KAWSARPA_H
@@ -37,7 +37,7 @@
  * Of this header, and of the library and the tool that were built with it. CHANGELOG.md says what each version brought.
  */
 #define KAWSARPA_VERSION_MAJOR 0
-#define KAWSARPA_VERSION_MINOR 6
+#define KAWSARPA_VERSION_MINOR 7
 #define KAWSARPA_VERSION_PATCH 0
 
 /* The same as a string: "1.2.3" for 1, 2 and 3. */
@@ -241,6 +241,8 @@ enum {
     KAWSARPA_ANSWER_BAD_ECHO = 17,
     /* D, Di: UDP checksum wrong, or 0 where the entry does not allow it; between 9 and 10 */
     KAWSARPA_ANSWER_BAD_CHECKSUM = 18,
+    /* bursts only: over 32 lengths, lengths that do not add up to the input, or fewer places for answers than lengths */
+    KAWSARPA_ANSWER_BAD_BURST = 19,
     /* offers only: no row is free for a new TEID */
     KAWSARPA_ANSWER_NO_ROW = 25,
     /* offers only: the row has seen 4,294,967,295 */
@@ -260,7 +262,8 @@ static inline const char *kawsarpa_answer_name(unsigned int number)
     static const char *const names[] = {
         "sent", "table not sound", "malformed packet", "bad IPv4 header", "no match", "bad header chain", "hop limit exceeded",
         "bad segments left", "bad upper layer", "bad UDP", "bad GTP-U", "not a G-PDU", "bad extensions", "bad container",
-        "bad inner packet", "too long", "no room", "bad Echo Request", "bad UDP checksum", 0, 0, 0, 0, 0, 0, "no row free", "row full"
+        "bad inner packet", "too long", "no room", "bad Echo Request", "bad UDP checksum", "bad burst", 0, 0, 0, 0, 0, "no row free",
+        "row full"
     };
     /* clang-format on */
     return number < sizeof names / sizeof names[0] && names[number] != 0 ? names[number] : "unknown";
@@ -281,6 +284,126 @@ static inline int kawsarpa_is_echo_response(const uint8_t *sent, size_t length)
     if (length == KAWSARPA_ECHO_RESPONSE_IPV6)
         return sent[0] >> 4 == 6 && sent[6] == 17 && sent[49] == 2;
     return length == KAWSARPA_ECHO_RESPONSE_IPV4 && sent[0] >> 4 == 4 && sent[29] == 2;
+}
+
+/*
+ * BURSTS
+ *
+ * Up to KAWSARPA_BURST_MAX packets a call, all IPv6 or all IPv4. The table is judged once for all of them. The packets lie one after the
+ * other in `packets`, and `lengths` has the length of each. The results lie one after the other in `out`, from its first octet on, with
+ * nothing between them; answers[i] is the answer to packet i, in the form of a single call's.
+ *
+ *     uint64_t answers[KAWSARPA_BURST_MAX];
+ *     struct kawsarpa_burst_result result;
+ *
+ *     kawsarpa_call_burst_ipv6(packets, packets_len, lengths, count, table, table_len, out, out_len, answers, KAWSARPA_BURST_MAX);
+ *     kawsarpa_burst_first(&result);
+ *     while (kawsarpa_burst_next(&result, answers, count))
+ *         send_on(out + result.at, result.length);
+ *
+ * Each answer, and each octet, is that of a single call for the packet with the room then left, which is the output less what was sent
+ * before. A refused packet takes no room, so after one that was refused with 16 a shorter one may still be sent. ICMP pointers count
+ * within each packet. A length of 0 is a packet too, and refused with 2. With a table that is not sound each packet is refused with 1.
+ *
+ * The burst itself answers 0, with the sum of the lengths sent as its length; so for a burst without packets. It answers 19, with nothing
+ * written, neither to the output nor to the answers, for the burst as a whole and before anything else is looked at: where there are more
+ * than KAWSARPA_BURST_MAX lengths, where they do not add up to packets_len, and where there are fewer places for answers than lengths.
+ * Places for answers past the burst stay as they are, and so do the octets of the output behind the last result.
+ *
+ * An output of packets_len + count x KAWSARPA_GROWTH_MAX octets has room for every result, and so has one of KAWSARPA_BURST_OUT_MAX.
+ *
+ * The caller owes what he owes a call, and that the answers overlap nothing else that is lent, and `out` neither lengths nor answers.
+ * Lengths and answers are aligned as their types ask; packets, table and output may begin at any address, and results lie at any.
+ */
+enum {
+    KAWSARPA_BURST_MAX = 32,
+    KAWSARPA_BURST_OUT_MAX = KAWSARPA_BURST_MAX * KAWSARPA_OUT_MAX
+};
+
+#ifdef __cplusplus
+extern "C" {
+#endif
+
+uint64_t kawsarpa_burst_ipv6(const uint8_t *packets, size_t packets_len, const uint32_t *lengths, size_t count, const uint8_t *table,
+                             size_t table_len, uint8_t *out, size_t out_len, uint64_t *answers, size_t answers_count);
+
+uint64_t kawsarpa_burst_ipv4(const uint8_t *packets, size_t packets_len, const uint32_t *lengths, size_t count, const uint8_t *table,
+                             size_t table_len, uint8_t *out, size_t out_len, uint64_t *answers, size_t answers_count);
+
+#ifdef __cplusplus
+}
+#endif
+
+/* The same, for a caller whose pointer may be null where the count is 0; they assert that the output overlaps neither packets nor table. */
+
+static inline uint64_t kawsarpa_call_burst_ipv6(const uint8_t *packets, size_t packets_len, const uint32_t *lengths, size_t count,
+                                                const uint8_t *table, size_t table_len, uint8_t *out, size_t out_len, uint64_t *answers,
+                                                size_t answers_count)
+{
+    uint8_t none = 0;
+    uint32_t no_length = 0;
+    uint64_t no_answer = 0;
+    assert(kawsarpa_apart(out, out_len, packets, packets_len));
+    assert(kawsarpa_apart(out, out_len, table, table_len));
+    return kawsarpa_burst_ipv6(packets_len == 0 ? &none : packets, packets_len, count == 0 ? &no_length : lengths, count,
+                               table_len == 0 ? &none : table, table_len, out_len == 0 ? &none : out, out_len,
+                               answers_count == 0 ? &no_answer : answers, answers_count);
+}
+
+static inline uint64_t kawsarpa_call_burst_ipv4(const uint8_t *packets, size_t packets_len, const uint32_t *lengths, size_t count,
+                                                const uint8_t *table, size_t table_len, uint8_t *out, size_t out_len, uint64_t *answers,
+                                                size_t answers_count)
+{
+    uint8_t none = 0;
+    uint32_t no_length = 0;
+    uint64_t no_answer = 0;
+    assert(kawsarpa_apart(out, out_len, packets, packets_len));
+    assert(kawsarpa_apart(out, out_len, table, table_len));
+    return kawsarpa_burst_ipv4(packets_len == 0 ? &none : packets, packets_len, count == 0 ? &no_length : lengths, count,
+                               table_len == 0 ? &none : table, table_len, out_len == 0 ? &none : out, out_len,
+                               answers_count == 0 ? &no_answer : answers, answers_count);
+}
+
+/* A result of a burst: which packet it is of, from 0, and where it lies in the output. */
+struct kawsarpa_burst_result {
+    size_t packet;
+    size_t at;
+    size_t length;
+    size_t next; /* the packet that is looked at next */
+};
+
+/* Before the first result. */
+static inline void kawsarpa_burst_first(struct kawsarpa_burst_result *result)
+{
+    result->packet = 0;
+    result->at = 0;
+    result->length = 0;
+    result->next = 0;
+}
+
+/* Goes on to the next packet that was sent: 1 where there is one, 0 behind the last. The burst answered 0, and `count` is its own. */
+static inline int kawsarpa_burst_next(struct kawsarpa_burst_result *result, const uint64_t *answers, size_t count)
+{
+    result->at += result->length;
+    result->length = 0;
+    while (result->next < count) {
+        result->packet = result->next++;
+        if (kawsarpa_answer_number(answers[result->packet]) == KAWSARPA_ANSWER_SENT) {
+            result->length = kawsarpa_answer_length(answers[result->packet]);
+            return 1;
+        }
+    }
+    return 0;
+}
+
+/* Where the result of packet i begins in the output, if it was sent: behind the results of the packets before it. */
+static inline size_t kawsarpa_burst_at(const uint64_t *answers, size_t i)
+{
+    size_t at = 0;
+    size_t k;
+    for (k = 0; k < i; k++)
+        at += kawsarpa_answer_length(answers[k]);
+    return at;
 }
 
 /*
