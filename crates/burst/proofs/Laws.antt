@@ -1,23 +1,23 @@
--- Laws of a burst: one packet more at its end, the counts, a table that is not sound, the rest of a buffer that was lent.
+-- Laws of a burst: one packet more at its end, the counts, row 19, a table that is not sound.
 use mathlib.Core.Path.{_≡_, refl, sym, ap, _∙_}
-use mathlib.Core.Bool.{Bool, true, false, cond, _||_}
+use mathlib.Core.Bool.{true, false}
 use mathlib.Core.List.{List, [], _∷_, _++_, append-assoc, append-nil}
-use Prim.Native.Nat.{ℕ, zero, suc, _+_, _-_, _/_, _≤_}
-use native.Mathlib.Nat.{zero-add, le-refl}
+use Prim.Native.Nat.{ℕ, zero, suc, _+_, _-_, _≤_}
 use native.Mathlib.Omega.{arith}
-use lib.ListN.{length, take, drop, replicate, length-append, length-drop, take-append-drop, drop-of-length-le}
+use lib.ListN.{length, take, drop, replicate, length-append}
 use lib.Seq.{drop-drop}
-use borrow.Author.Tests.{not-false}
 use Rattle.rules.specs.Octets.{splice}
 use Rattle.rules.specs.Sound.{sound}
-use Rattle.rules.specs.Answer.{plain, any, verdict, Outcome, Sent, Refused, overlay, packed, packedFields}
+use Rattle.rules.specs.Answer.{plain, any, verdict, Outcome, Sent, Refused, packed}
+use Rattle.rules.specs.Header.{header}
+use Rattle.rules.specs.Header4.{header4}
+use Rattle.rules.specs.Calls.{frontRows6, frontRows4}
 use Rattle.rules.specs.Trip.{Version, v4, v6, translate}
 use Rattle.rules.proofs.Rows.{any-clear, read}
-use Rattle.answer.specs.Answered.{answerOf, Packs}
-use Rattle.copying.proofs.Laws.{splice-nil, first}
-use Rattle.gateway.proofs.Matches.{unsound6, unsound4}
-use Rattle.burst.specs.Burst.{sum, cut, result, outcomes, results, answers, unfit, burst, answered}
-use Rattle.burst.specs.Serving.{Fit, PacksAt}
+use Rattle.rules.proofs.Deciding.{settled6, settled4}
+use Rattle.answer.specs.Answered.{answerOf}
+use Rattle.answer.proofs.Settling.{refuse-settles}
+use Rattle.burst.specs.Burst.{sum, cut, result, outcomes, results, answers, unfit, Fit, burst, answered}
 
 -- ONE PACKET MORE
 
@@ -99,11 +99,32 @@ fit ls p places h =
     let c = any-clear (unfit ls p places) h in
     record { few = omega (read, c .0); adds = omega (read, c .1 .0); placed = omega (read, c .1 .1 .0) }
 
+-- the burst as a whole, where it refuses and where it does not
+module _ (v : Version) (ls p t : List ℕ) (room : ℕ) where
+  pub burst-refused : (places : ℕ) → any (unfit ls p places) ≡ true → burst v ls p t room places ≡ Refused (plain 19)
+  unfolding burst verdict
+  burst-refused places h = rw h
+
+  pub burst-sent : (places : ℕ) → any (unfit ls p places) ≡ false → burst v ls p t room places ≡ Sent (results (outcomes v t (cut ls p) room))
+  unfolding burst verdict
+  burst-sent places h = rw h
+
+  pub answered-kept : (before : List ℕ) → any (unfit ls p (length before)) ≡ true → answered v ls p t room before ≡ before
+  unfolding answered
+  answered-kept before h = rw h
+
+  pub answered-told : (before : List ℕ) → any (unfit ls p (length before)) ≡ false
+      → answered v ls p t room before ≡ splice before 0 (answers (outcomes v t (cut ls p) room))
+  unfolding answered
+  answered-told before h = rw h
+
 -- A TABLE THAT IS NOT SOUND
 
 unsound : (v : Version) (p t : List ℕ) (room : ℕ) → sound t ≡ false → translate v p t room ≡ Refused (plain 1)
-unsound v6 p t room h = unsound6 p t room h
-unsound v4 p t room h = unsound4 p t room h
+unsound v6 p t room h =
+    settled6 p t room ∙ refuse-settles room (frontRows6 t (header p)) _ (plain 1) (unfold frontRows6 verdict in rw h)
+unsound v4 p t room h =
+    settled4 p t room ∙ refuse-settles room (frontRows4 t (header4 p)) _ (plain 1) (unfold frontRows4 verdict in rw h)
 
 module _ (v : Version) (t : List ℕ) (h : sound t ≡ false) where
   -- each packet is refused with 1, and nothing is sent
@@ -123,33 +144,3 @@ pub answers-refused : (n : ℕ) → answers (replicate n (Refused (plain 1))) �
 unfolding answers
 answers-refused zero = refl
 answers-refused (suc n) = ap (λ (l : List ℕ). packed (Refused (plain 1)) ∷ l) (answers-refused n)
-
--- THE REST OF A BUFFER THAT WAS LENT
-
-lent : (o : List ℕ) (a : ℕ) (x : List ℕ) → take a o ++ splice (drop a o) 0 x ≡ splice o a x
-unfolding splice
-lent o a x =
-    ap (λ (l : List ℕ). take a o ++ (x ++ l)) (ap (λ (k : ℕ). drop k (drop a o)) (zero-add (length x)) ∙ drop-drop (length x) a o)
-    ∙ sym (append-assoc (take a o) x (drop (a + length x) o))
-
--- an outcome laid over it
-pub lent-outcome : (buffer : List ℕ) (used : ℕ) (o : Outcome) → take used buffer ++ overlay o (drop used buffer) ≡ splice buffer used (result o)
-unfolding result overlay
-lent-outcome buffer used (Sent x) = lent buffer used x
-lent-outcome buffer used (Refused r) = take-append-drop used buffer ∙ sym (splice-nil buffer used)
-
--- the buffer as it comes back from a call that was lent its rest
-pub back-tail : (buffer : List ℕ) (used : ℕ) (rest : List ℕ)
-    → take used buffer ++ (rest ++ drop (length buffer - used) (drop used buffer)) ≡ take used buffer ++ rest
-back-tail buffer used rest =
-    rw (drop-of-length-le (drop used buffer) {i = length buffer - used} (simp length-drop (le-refl (length buffer - used))), append-nil)
-
-pub lent-packs : (o : Outcome) (buffer : List ℕ) (used answer : ℕ) (rest : List ℕ) → Packs o (drop used buffer) answer rest
-    → PacksAt used o buffer answer (take used buffer ++ (rest ++ drop (length buffer - used) (drop used buffer)))
-lent-packs o buffer used answer rest r = record {
-  tells = r .tells;
-  holds = first buffer used (result o) _
-      (back-tail buffer used rest ∙ ap (λ (l : List ℕ). take used buffer ++ l) (r .holds) ∙ lent-outcome buffer used o)
-      (result-size o ∙ sym (r .size));
-  small = rw (r .size) (r .small);
-}

@@ -1,8 +1,9 @@
 -- A burst (order 3): up to 32 packets, lying one after the other with their lengths. Each is called once with the room then left, and the
 -- results lie one after the other in the output.
+use mathlib.Core.Path.{_≡_}
 use mathlib.Core.Bool.{Bool, cond}
 use mathlib.Core.List.{List, [], _∷_, _++_}
-use Prim.Native.Nat.{ℕ, _+_, _-_}
+use Prim.Native.Nat.{ℕ, _+_, _-_, _≤_}
 use lib.Dec.{ltb}
 use lib.ListN.{length, take, drop}
 use Rattle.rules.specs.Octets.{splice}
@@ -45,6 +46,12 @@ answers (o ∷ os) = packed o ∷ answers os
 -- row 19: over 32 lengths, lengths that do not add up to the input, or fewer places for answers than lengths
 abbrev pub unfit : (lengths octets : List ℕ) (places : ℕ) → List Bool
 unfit ls octets places = ltb most (length ls) ∷ differs (sum ls) (length octets) ∷ ltb places (length ls) ∷ []
+
+-- a burst that row 19 does not refuse
+pub record Fit (lengths octets : List ℕ) (places : ℕ) : Type 0 where
+  pub few : length lengths ≤ most
+  pub adds : sum lengths ≡ length octets
+  pub placed : length lengths ≤ places
 
 -- The burst as a whole, before any of its packets: what it answers, with the results as what it sends, and what the places for answers
 -- hold afterwards.

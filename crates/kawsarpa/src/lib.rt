@@ -58,7 +58,7 @@ pub extern "C" fn kawsarpa_burst_ipv6(
         (now (answers .entry)))
         ⌝ }
 {
-    burst::burst_ipv6(packets, lengths, table, out, answers)
+    serving::burst_ipv6(packets, lengths, table, out, answers)
 }
 
 #[no_mangle]
@@ -77,7 +77,7 @@ pub extern "C" fn kawsarpa_burst_ipv4(
         (now (answers .entry)))
         ⌝ }
 {
-    burst::burst_ipv4(packets, lengths, table, out, answers)
+    serving::burst_ipv4(packets, lengths, table, out, answers)
 }
 
 // The first condition of soundness that a table breaks; 0 exactly when the table is sound.

@@ -1,10 +1,10 @@
 use Rattle.copying.proofs.Laws.{tail-all}
-use Rattle.burst.specs.Serving.{versionOf, PacksAt}
-use Rattle.burst.proofs.Laws.{lent-packs}
+use Rattle.serving.specs.Serving.{versionOf, PacksAt}
+use Rattle.serving.proofs.Lent.{lent-packs}
 use lib.ListN.{length-drop}
 use borrow.Author.Needs.{needs}
-use Rattle.burst.proofs.one.Statement.{statement}
-use Rattle.burst.proofs.one.Tie as tie
+use Rattle.serving.proofs.one.Statement.{statement}
+use Rattle.serving.proofs.one.Tie as tie
 
 returns : tie.Need-returns
 returns c =

@@ -1,15 +1,14 @@
 use borrow.Author.Tests.{not-true, not-false}
-use Rattle.burst.specs.Serving.{versionOf}
 use Rattle.burst.proofs.Laws.{fit}
-use Rattle.burst.proofs.Wholes.{packed-named, whole-refused, whole-unsound, whole-served}
+use Rattle.serving.proofs.Wholes.{packed-named, whole-refused, whole-unsound, whole-served}
 use Rattle.rules.specs.Answer.{plain}
 use native.Mathlib.Omega.{arith}
 use denote.Ref.{now}
 use lib.ListN.{length}
 use mathlib.Core.Path.{sym, _∙_}
 use borrow.Author.Needs.{needs}
-use Rattle.burst.proofs.burst.Statement.{statement}
-use Rattle.burst.proofs.burst.Tie as tie
+use Rattle.serving.proofs.whole.Statement.{statement}
+use Rattle.serving.proofs.whole.Tie as tie
 
 returns : tie.Need-returns
 returns c =
@@ -42,8 +41,8 @@ returns-3 c =
     let f = sym (c .before .before .before .before .before .before .before .before .before .before .before .is-unfit .ensures) ∙ c .before .before .before .before .before .before .before .before .before .before .if1 .left in
     whole-served _ _ _ _ _ _ _ f _ _ _ (c .before .before .before .before .before .serve .ensures) (c .sent2 .ensures)
 
-pub burst-spec : {M : Type 1} → statement M
-burst-spec =
+pub whole-spec : {M : Type 1} → statement M
+whole-spec =
     tie.close
     (tie.spec
     (λ c κs. search needs)

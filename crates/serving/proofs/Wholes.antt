@@ -6,16 +6,17 @@ use Prim.Native.Nat.{ℕ}
 use lib.ListN.{length, replicate}
 use Rattle.rules.specs.Octets.{splice}
 use Rattle.rules.specs.Sound.{sound}
-use Rattle.rules.specs.Answer.{plain, any, verdict, Outcome, Sent, Refused, overlay, packed, packedFields}
+use Rattle.rules.specs.Answer.{plain, any, Outcome, Sent, Refused, overlay, packed, packedFields}
 use Rattle.rules.specs.Trip.{Version}
 use Rattle.rules.specs.declared.Refusal.{Refusal}
 use Rattle.answer.specs.Answered.{answerOf}
 use Rattle.answer.specs.declared.Answer.{Answer}
 use Rattle.answer.proofs.Settling.{packed-answer}
 use Rattle.copying.proofs.Laws.{splice-nil}
-use Rattle.burst.specs.Burst.{cut, outcomes, results, answers, unfit, burst, answered}
-use Rattle.burst.specs.Serving.{Served, Whole}
-use Rattle.burst.proofs.Laws.{cut-length, outcomes-unsound, results-refused, answers-refused}
+use Rattle.burst.specs.Burst.{cut, outcomes, results, answers, unfit, burst}
+use Rattle.serving.specs.Serving.{Served, Whole}
+use Rattle.burst.proofs.Laws.{cut-length, burst-refused, burst-sent, answered-kept, answered-told}
+use Rattle.burst.proofs.Laws.{outcomes-unsound, results-refused, answers-refused}
 
 -- a refusal that was made under its name, and packed
 pub packed-named : (ρ r : Refusal) (a : Answer) (w : ℕ) → r ≡ ρ → a ≡ answerOf (Refused r)
@@ -23,24 +24,6 @@ pub packed-named : (ρ r : Refusal) (a : Answer) (w : ℕ) → r ≡ ρ → a �
 packed-named ρ r a w e f g =
     g ∙ ap (λ (a : Answer). packedFields (a .number) (a .icmpType) (a .icmpCode) (a .pointer) (a .size)) f ∙ packed-answer (Refused r)
     ∙ ap (λ (r : Refusal). packed (Refused r)) e
-
-module _ (v : Version) (ls p t : List ℕ) (room : ℕ) where
-  pub burst-refused : (places : ℕ) → any (unfit ls p places) ≡ true → burst v ls p t room places ≡ Refused (plain 19)
-  unfolding burst verdict
-  burst-refused places h = rw h
-
-  pub burst-sent : (places : ℕ) → any (unfit ls p places) ≡ false → burst v ls p t room places ≡ Sent (results (outcomes v t (cut ls p) room))
-  unfolding burst verdict
-  burst-sent places h = rw h
-
-  pub answered-kept : (before : List ℕ) → any (unfit ls p (length before)) ≡ true → answered v ls p t room before ≡ before
-  unfolding answered
-  answered-kept before h = rw h
-
-  pub answered-told : (before : List ℕ) → any (unfit ls p (length before)) ≡ false
-      → answered v ls p t room before ≡ splice before 0 (answers (outcomes v t (cut ls p) room))
-  unfolding answered
-  answered-told before h = rw h
 
 module _ (v : Version) (ls p t out places : List ℕ) (answer : ℕ) where
   pub whole-refused : any (unfit ls p (length places)) ≡ true → answer ≡ packed (Refused (plain 19)) → Whole v ls p t out places answer out

@@ -11,10 +11,10 @@ use Rattle.rules.specs.Answer.{Outcome, packed}
 use Rattle.rules.specs.Trip.{Version, translate}
 use Rattle.copying.specs.Run.{Run}
 use Rattle.copying.proofs.Laws.{first, next, run-as, chain, splice-nil}
-use Rattle.burst.specs.Burst.{sum, cut, result, outcomes, results, answers}
-use Rattle.burst.specs.Serving.{Fit, PacksAt, Served}
+use Rattle.burst.specs.Burst.{sum, cut, result, outcomes, results, answers, Fit}
+use Rattle.serving.specs.Serving.{PacksAt, Served}
 use Rattle.burst.proofs.Laws.{sum-snoc, sum-take, cut-snoc, results-snoc, answers-snoc, outcomes-snoc, cut-length}
 use Rattle.burst.proofs.Laws.{outcomes-length, answers-length}
 
 -- what comes of the first i packets
 abbrev pub soFar : Version → (ls p t : List ℕ) (room i : ℕ) → List Outcome

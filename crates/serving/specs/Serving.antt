@@ -2,24 +2,18 @@
 use mathlib.Core.Path.{_≡_}
 use mathlib.Core.Bool.{Bool, true, false}
 use mathlib.Core.List.{List}
-use Prim.Native.Nat.{ℕ, _/_, _≤_, _<_}
+use Prim.Native.Nat.{ℕ, _/_, _<_}
 use lib.ListN.{length}
 use Rattle.rules.specs.Octets.{splice}
 use Rattle.rules.specs.Answer.{Outcome, overlay, packed}
 use Rattle.rules.specs.Trip.{Version, v4, v6}
 use Rattle.copying.specs.Run.{Run}
-use Rattle.burst.specs.Burst.{most, sum, cut, result, outcomes, results, answers, burst, answered}
+use Rattle.burst.specs.Burst.{cut, result, outcomes, results, answers, burst, answered}
 
 -- which of the two calls
 abbrev pub versionOf : (ipv6 : Bool) → Version
 versionOf true = v6
 versionOf false = v4
-
--- a burst that row 19 does not refuse
-pub record Fit (lengths octets : List ℕ) (places : ℕ) : Type 0 where
-  pub few : length lengths ≤ most
-  pub adds : sum lengths ≡ length octets
-  pub placed : length lengths ≤ places
 
 -- One packet: its outcome was answered in one number, from which the length can be read, and its result was put into the buffer from
 -- octet `used` on.

@@ -1,5 +1,5 @@
-use Rattle.burst.specs.Serving.{versionOf, PacksAt}
-use Rattle.burst.proofs.Loop.{Serving, serving-start, serving-next, serving-end, place-next}
+use Rattle.serving.specs.Serving.{versionOf, PacksAt}
+use Rattle.serving.proofs.Loop.{Serving, serving-start, serving-next, serving-end, place-next}
 use Rattle.rules.specs.Trip.{translate}
 use mathlib.Core.Path.{_≡_, ap, _∙_}
 use mathlib.Core.List.{List}
@@ -10,8 +10,8 @@ use native.Mathlib.Numerals.{add-one}
 use lib.ListN.{length, take, drop, getD}
 use denote.Ref.{now}
 use borrow.Author.Needs.{needs}
-use Rattle.burst.proofs.serve.Statement.{statement}
-use Rattle.burst.proofs.serve.Tie as tie
+use Rattle.serving.proofs.serve.Statement.{statement}
+use Rattle.serving.proofs.serve.Tie as tie
 
 abbrev Inv-loop : tie.InvT-loop
 Inv-loop ipv6 packets lengths table out₀ answers₀ i₀ place₀ used₀ out answers i place used =

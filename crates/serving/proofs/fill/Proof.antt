@@ -1,6 +1,6 @@
 use Rattle.rules.specs.Octets.{splice}
 use Rattle.copying.proofs.Laws.{chain, splice-nil}
-use Rattle.burst.proofs.Loop.{set-splice}
+use Rattle.serving.proofs.Loop.{set-splice}
 use mathlib.Core.Path.{_≡_, refl, sym, ap, _∙_}
 use mathlib.Core.List.{List, [], _∷_, _++_}
 use Prim.Native.Nat.{ℕ, suc, _+_, _-_, _≤_, _<_}
@@ -10,8 +10,8 @@ use native.Mathlib.Numerals.{add-one}
 use lib.ListN.{length, replicate, set, length-set, length-replicate, replicate-append-replicate}
 use denote.Ref.{now}
 use borrow.Author.Needs.{needs}
-use Rattle.burst.proofs.fill.Statement.{statement}
-use Rattle.burst.proofs.fill.Tie as tie
+use Rattle.serving.proofs.fill.Statement.{statement}
+use Rattle.serving.proofs.fill.Tie as tie
 
 abbrev Inv-loop : tie.InvT-loop
 Inv-loop answers₀ count answer i₀ answers i = (i ≤ count) × (answers ≡ splice answers₀ 0 (replicate i answer)) × (length answers ≡ length
