@@ -1,0 +1,55 @@
+-- A call with another room: what is sent with some room is sent with any that is as long as the packet, and what is refused is refused with
+-- less.
+use mathlib.Core.Path.{_≡_, refl, sym, ap, _∙_}
+use mathlib.Core.Bool.{Bool, true, false, cond}
+use mathlib.Core.List.{List, [], _∷_}
+use Prim.Native.Nat.{ℕ, _≤_, _<_}
+use native.Mathlib.Omega.{arith}
+use lib.Dec.{ltb}
+use lib.ListN.{length}
+use borrow.Author.Tests.{le-ltb, lt-ltb, ltb-true, ltb-false}
+use Rattle.rules.specs.Answer.{roomRow, Outcome, Sent, Refused, settle}
+use Rattle.rules.specs.Trip.{Version, v4, v6, translate}
+use Rattle.rules.specs.declared.Refusal.{Refusal}
+use Rattle.rules.proofs.Rows.{unless-sent, settle-sent, sent-settle}
+use Rattle.rules.proofs.Deciding.{settled6, settled4}
+use Rattle.answer.proofs.Settling.{room-short, room-enough}
+use Rattle.burst.specs.Alone.{size}
+
+-- what is decided, and what its length is held against
+settled : (v : Version) (p t : List ℕ) → (o : Outcome) × ((room : ℕ) → translate v p t room ≡ settle room o)
+settled v6 p t = (_, settled6 p t)
+settled v4 p t = (_, settled4 p t)
+
+sent-within : (room : ℕ) (o : Outcome) (x : List ℕ) → settle room o ≡ Sent x → length x ≤ room
+unfolding settle
+sent-within room (Sent y) x e =
+    let u = unless-sent (roomRow room y ∷ []) (Sent y) x e in
+    let same : length y ≡ length x = ap size (u .1) in
+    omega (arith, ltb-false room (length y) (u .0 .0 .0))
+sent-within room (Refused r) x e = let z : _≡_ {A = ℕ} 0 1 = cc in absurd (omega arith)
+
+refused-less : (room less : ℕ) (o : Outcome) (r : Refusal) → settle room o ≡ Refused r → less ≤ room → settle less o ≡ Refused r
+refused-less room less (Sent y) r e h = go (ltb room (length y)) refl
+  where
+    go : (b : Bool) → ltb room (length y) ≡ b → settle less (Sent y) ≡ Refused r
+    go true q =
+        let short : room < length y = ltb-true room (length y) q in
+        room-short less y (omega arith) ∙ sym (room-short room y short) ∙ e
+    go false q =
+        let z : Sent y ≡ Refused r = sym (room-enough room y (ltb-false room (length y) q)) ∙ e in
+        let n : _≡_ {A = ℕ} 0 1 = cc in
+        absurd (omega arith)
+refused-less room less (Refused ρ) r e h = unfold settle in e
+
+module _ (v : Version) (p t : List ℕ) (room : ℕ) where
+  pub call-within : (x : List ℕ) → translate v p t room ≡ Sent x → length x ≤ room
+  call-within x e = let (o, s) = settled v p t in sent-within room o x (sym (s room) ∙ e)
+
+  pub sent-also : (x : List ℕ) (other : ℕ) → translate v p t room ≡ Sent x → length x ≤ other → translate v p t other ≡ Sent x
+  sent-also x other e h =
+      let (o, s) = settled v p t in s other ∙ settle-sent other o x (sent-settle room o x (sym (s room) ∙ e)) h
+
+  pub refused-also : (r : Refusal) (less : ℕ) → translate v p t room ≡ Refused r → less ≤ room → translate v p t less ≡ Refused r
+  refused-also r less e h =
+      let (o, s) = settled v p t in s less ∙ refused-less room less o r (sym (s room) ∙ e) h
