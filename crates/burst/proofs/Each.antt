@@ -179,11 +179,11 @@ unfit-bad ls p places h = go (ltb most (length ls)) refl
     second e false f = third e f (ltb places (length ls)) refl
 
     go : (b : Bool) → ltb most (length ls) ≡ b → BadBurst ls p places
-    go true e = over32 (ltb-true most (length ls) e)
+    go true e = let h = ltb-true most (length ls) e in over32 (omega arith)
     go false e = second e (differs (sum ls) (length p)) refl
 
 pub bad-unfit : (ls p : List ℕ) (places : ℕ) → BadBurst ls p places → any (unfit ls p places) ≡ true
-bad-unfit ls p places (over32 h) = rw (lt-ltb most (length ls) h)
+bad-unfit ls p places (over32 h) = rw (lt-ltb most (length ls) (omega arith))
 bad-unfit ls p places (unequal h) = rw (ne-eqb (sum ls) (length p) h, or-true)
 bad-unfit ls p places (fewPlaces h) = rw (lt-ltb places (length ls) h, or-true, or-true)
 

@@ -20,7 +20,7 @@ fill-requires : tie.Need-fill-requires
 fill-requires c κs =
     let a = c .before .before .before .before .before .before .before .before .before .before .before .before .before .args in
     let f = sym (c .before .before .before .before .before .before .before .is-unfit .ensures) ∙ c .before .before .before .before .before .before .if1 .left in
-    fit (now (a .lengths)) (now (a .packets)) (length (now (a .answers))) f .placed
+    omega (arith, fit (now (a .lengths)) (now (a .packets)) _ f .placed)
 
 returns-2 : tie.Need-returns-2
 returns-2 c =
