@@ -1,5 +1,5 @@
-// Reads calls from standard input, makes each, and prints its name and what came of it: the answer's fields and the octets sent, or TEID
-// and sequence number of the packet. The second program writes the input and what is to be printed (tests/second/src/program.rs, which
+// Reads calls from standard input, makes each, and prints its name and what came of it: the answer's fields and the octets sent, TEID and
+// sequence number of the packet, or of a burst its answer, the places for answers and the octets sent. The second program writes the input and what is to be printed (tests/second/src/program.rs, which
 // says how a call stands there).
 use answer::Answer;
 use libc::STDIN_FILENO;
@@ -15,6 +15,13 @@ const TRANSLATE_IPV4: u8 = 4;
 const SEQUENCE_IPV4: u8 = 0x84;
 
 const SEQUENCE_IPV6: u8 = 0x86;
+
+const BURST_IPV4: u8 = 0x44;
+
+const BURST_IPV6: u8 = 0x46;
+
+// What stands in the places for answers before a burst.
+const BEFORE: u64 = 0xffffffffffffffff;
 
 // What next answers where no further call stands in the input.
 const NONE: usize = 0x10000;
@@ -50,6 +57,18 @@ fn within(n: usize, buf: &[u8]) -> usize
     ensures { λ r. ⌜ Counts r (now (buf .entry)) ⌝ }
 {
     if n <= buf.len() { n } else { 0 }
+}
+
+fn within_lengths(n: usize, lengths: &[u32]) -> usize
+    ensures { λ r. ⌜ Counts r (now (lengths .entry)) ⌝ }
+{
+    if n <= lengths.len() { n } else { 0 }
+}
+
+fn within_answers(n: usize, answers: &[u64]) -> usize
+    ensures { λ r. ⌜ Counts r (now (answers .entry)) ⌝ }
+{
+    if n <= answers.len() { n } else { 0 }
 }
 
 fn print_field(n: u64) {
@@ -101,6 +120,105 @@ fn print_sequence(name: &[u8], found: u64) {
     io::write_all(STDOUT_FILENO, &[b'\n']);
 }
 
+// Length i, of 255 at most, which stand from octet 2 of the packet on.
+fn length_at(packet: &[u8], i: usize) -> u32 {
+    let at = 2 + 4 * (i % 256);
+    let a = octets::octet_or_0(packet, at);
+    let b = octets::octet_or_0(packet, at + 1);
+    let c = octets::octet_or_0(packet, at + 2);
+    let d = octets::octet_or_0(packet, at + 3);
+    a as u32 * 0x1000000 + b as u32 * 0x10000 + c as u32 * 0x100 + d as u32
+}
+
+fn read_lengths(packet: &[u8], lengths: &mut [u32]) {
+    let mut i = 0;
+    while i < lengths.len() {
+        lengths[i] = length_at(packet, i);
+        i += 1;
+    }
+}
+
+fn print_answers(answers: &[u64]) {
+    let mut i = 0;
+    while i < answers.len() {
+        io::print_hex(STDOUT_FILENO, answers[i], 16);
+        io::write_all(STDOUT_FILENO, &[b' ']);
+        i += 1;
+    }
+}
+
+fn made_burst(
+    function: u8,
+    packets: &[u8],
+    lengths: &[u32],
+    table: &[u8],
+    out: &mut [u8],
+    answers: &mut [u64],
+) -> u64 {
+    if function == BURST_IPV4 {
+        return serving::burst_ipv4(packets, lengths, table, out, answers);
+    }
+    serving::burst_ipv6(packets, lengths, table, out, answers)
+}
+
+// A burst with so many lengths and places for answers.
+fn burst_of(
+    function: u8,
+    name: &[u8],
+    table: &[u8],
+    packet: &[u8],
+    out: &mut [u8],
+    lengths: &mut [u32],
+    answers: &mut [u64],
+) {
+    read_lengths(packet, lengths);
+    let at = within(2 + 4 * lengths.len(), packet);
+    let answer = made_burst(function, &packet[at..], lengths, table, out, answers);
+    print_name(name);
+    io::print_hex(STDOUT_FILENO, answer, 16);
+    io::write_all(STDOUT_FILENO, &[b' ']);
+    print_answers(answers);
+    print_octets(out, burst::size_of(answer));
+    io::write_all(STDOUT_FILENO, &[b'\n']);
+}
+
+// The octets of the packet begin with the number of lengths and that of places for answers, then the lengths.
+fn burst_in(
+    function: u8,
+    name: &[u8],
+    table: &[u8],
+    packet: &[u8],
+    out: &mut [u8],
+    lengths: &mut [u32],
+    answers: &mut [u64],
+) {
+    let count = within_lengths(octets::wide(octets::octet_or_0(packet, 0)), lengths);
+    let places = within_answers(octets::wide(octets::octet_or_0(packet, 1)), answers);
+    burst_of(
+        function,
+        name,
+        table,
+        packet,
+        out,
+        &mut lengths[..count],
+        &mut answers[..places],
+    );
+}
+
+fn burst(function: u8, name: &[u8], table: &[u8], packet: &[u8], out: &mut [u8]) {
+    let mut length_space = [0u32; 255];
+    let mut answer_space = [BEFORE; 255];
+    burst_in(
+        function,
+        name,
+        table,
+        packet,
+        out,
+        &mut length_space,
+        &mut answer_space,
+    );
+}
+
 fn call(function: u8, name: &[u8], table: &[u8], packet: &[u8], out: &mut [u8]) {
     if function == SEQUENCE_IPV4 {
         print_sequence(name, sequence::sequence_ipv4(packet));
@@ -108,6 +226,10 @@ fn call(function: u8, name: &[u8], table: &[u8], packet: &[u8], out: &mut [u8]) 
     }
     if function == SEQUENCE_IPV6 {
         print_sequence(name, sequence::sequence_ipv6(packet));
+        return;
+    }
+    if (function == BURST_IPV4) | (function == BURST_IPV6) {
+        burst(function, name, table, packet, out);
         return;
     }
     if function == TRANSLATE_IPV4 {
