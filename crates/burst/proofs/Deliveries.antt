@@ -12,7 +12,8 @@ use Rattle.rules.specs.Demand3.{Matching, over6, over4}
 use Rattle.rules.proofs.Trips.{overlay-sent}
 use Rattle.rules.proofs.Demand3.{demand3}
 use Rattle.burst.specs.Burst.{most, cut, outcomes, results, burst, Fit}
-use Rattle.burst.specs.BurstTrip.{sentOn, lengthsOf, arrived, withLater, BurstTrip, outcomesAt, onward, burstTrip, single, calls, RoomForAll}
+use Rattle.burst.specs.BurstTrip.{sentOn, lengthsOf, arrived, withLater, BurstTrip, outcomesAt, onward, burstTrip}
+use Rattle.burst.specs.BurstTrip.{single, calls, RoomForAll}
 use Rattle.burst.specs.BurstTrip.{EachMatching, promised, eachPromised}
 use Rattle.burst.proofs.Laws.{burst-sent, cut-length, outcomes-length}
 use Rattle.burst.proofs.Passing.{cut-sent, fit-onward, not-unfit, outcomes-calls, single-step}
@@ -31,8 +32,8 @@ burst-step s ss ls p f =
     record { outcomes = withLater os (t .outcomes); buffers = splice (s .buffer) 0 x ∷ t .buffers }) (overlay-sent x (s .buffer))
 
 -- the burst that follows is fit where the first is
-pub next-fit : (s : Stop) (ls p : List ℕ) → Fit ls p most → Fit (lengthsOf (sentOn (outcomesAt s (cut ls p)))) (results (outcomesAt s (cut ls
-    p))) most
+pub next-fit : (s : Stop) (ls p : List ℕ) → Fit ls p most
+    → let os = outcomesAt s (cut ls p) in Fit (lengthsOf (sentOn os)) (results os) most
 next-fit s ls p f =
     let n : length (outcomesAt s (cut ls p)) ≡ length ls =
     outcomes-length (s .version) (s .table) (cut ls p) (length (s .buffer)) ∙ cut-length ls p in

@@ -2,22 +2,28 @@
 use mathlib.Core.Path.{_≡_, refl, sym, ap, _∙_}
 use mathlib.Core.Bool.{Bool, true, false, true≢false, or-true}
 use mathlib.Core.List.{List, [], _∷_, _++_, append-assoc}
-use Prim.Native.Nat.{ℕ, zero, suc, _+_, _-_, _*_, _≤_, _<_}
+use Prim.Native.Nat.{ℕ, zero, suc, _+_, _-_, _*_, _/_, _≤_, _<_}
 use native.Mathlib.Nat.{add-sub-of-le}
 use native.Mathlib.Omega.{arith}
 use lib.ListN.{length, take, drop, getD, length-append, List·getD-append}
 use lib.Seq.{drop-drop, take-append-seam, drop-append-seam, drop-append-add, getD-append-add, getD-drop}
 use borrow.Author.Tests.{lt-ltb, ne-eqb, ltb-true, ltb-false, eqb-true, not-false}
 use lib.Dec.{ltb}
-use Rattle.rules.specs.Octets.{splice}
+use Rattle.rules.specs.Octets.{Octets, splice}
+use Rattle.rules.specs.Given.{Listed, withIcmp, withoutIcmp}
+use Rattle.rules.specs.Refused.{upperAt}
 use Rattle.rules.specs.Answer.{plain, any, differs, Outcome, Sent, Refused, overlay, packed}
-use Rattle.rules.specs.Trip.{Version, translate}
+use Rattle.rules.specs.Trip.{Version, v4, v6, translate}
 use Rattle.rules.specs.declared.Refusal.{Refusal}
+use Rattle.rules.proofs.Windows.{octets-drop}
 use Rattle.rules.proofs.Rows.{eq-differs}
+use Rattle.rules.proofs.Given.{listed6, listed4}
 use Rattle.copying.proofs.Laws.{splice-front, splice-length}
 use Rattle.burst.specs.Burst.{most, sum, cut, result, outcomes, results, answers, unfit, Fit, burst, answered}
-use Rattle.burst.specs.Alone.{packet, size, sizes, outcomeAt, sentBefore, Alone, Told, Laid, BadBurst, over32, unequal, fewPlaces}
-use Rattle.burst.proofs.Laws.{cut-length, outcomes-length, answers-length, burst-refused, burst-sent, answered-told, fit}
+use Rattle.burst.specs.Alone.{packet, size, sizes, outcomeAt, sentBefore, Alone, lengthsIn, Told, Laid}
+use Rattle.burst.specs.Alone.{BadBurst, over32, unequal, fewPlaces}
+use Rattle.burst.proofs.Laws.{cut-length, outcomes-length, answers-length, fit}
+use Rattle.burst.proofs.Laws.{burst-refused, burst-sent, answered-kept, answered-told}
 use Rattle.burst.proofs.Room.{call-within}
 
 -- EACH OUTCOME IS THAT OF A CALL BY ITSELF
@@ -42,7 +48,8 @@ each v t (n ∷ ns) p room (suc i) h =
     let o : Outcome = translate v (take n p) t room in
     let os : List Outcome = outcomes v t (cut ns (drop n p)) (room - length (result o)) in
     each v t ns (drop n p) (room - length (result o)) i (omega arith)
-    ∙ ap (λ (l : List ℕ). translate v (take (getD ns i 0) l) t (room - length (result o) - sentBefore os i)) (drop-drop (sum (take i ns)) n p)
+    ∙ ap (λ (l : List ℕ). translate v (take (getD ns i 0) l) t (room - length (result o) - sentBefore os i))
+    (drop-drop (sum (take i ns)) n p)
     ∙ ap (translate v (take (getD ns i 0) (drop (n + sum (take i ns)) p)) t)
     (sub-sub room (length (result o)) (sentBefore os i) ∙ ap (λ (k : ℕ). room - (k + sentBefore os i)) (sym (size-result o)))
 
@@ -65,7 +72,8 @@ alone-outcomes v (n ∷ ns) p t room (o ∷ os) a =
       count = let z = a .count in omega arith;
       each = λ i h.
           a .each (suc i) (omega arith)
-          ∙ ap (λ (l : List ℕ). translate v (take (getD ns i 0) l) t (room - (size o + sentBefore os i))) (sym (drop-drop (sum (take i ns)) n p))
+          ∙ ap (λ (l : List ℕ). translate v (take (getD ns i 0) l) t (room - (size o + sentBefore os i)))
+          (sym (drop-drop (sum (take i ns)) n p))
           ∙ ap (translate v (packet ns (drop n p) i) t)
           (ap (λ (k : ℕ). room - (k + sentBefore os i)) (size-result o) ∙ sym (sub-sub room (length (result o)) (sentBefore os i)));
     } in
@@ -102,6 +110,36 @@ answers-told v ls p t room before h =
           ∙ ap (λ (j : ℕ). getD before j 0) up;
     }
 
+-- the length in the answer to a packet of octets is that of what is sent
+length-told : (v : Version) (p t : List ℕ) (room : ℕ) → Octets p
+    → packed (translate v p t room) / 0x10000000000 ≡ size (translate v p t room)
+length-told v6 p t room h = go (listed6 p t room h)
+  where
+    go : Listed (withIcmp (upperAt p)) (translate v6 p t room)
+        → packed (translate v6 p t room) / 0x10000000000 ≡ size (translate v6 p t room)
+    go (Listed.sent x e r) = r .size ∙ sym (ap size e)
+    go (Listed.refused n a b e r) = r .size ∙ sym (ap size e)
+length-told v4 p t room h = go (listed4 p t room)
+  where
+    go : Listed withoutIcmp (translate v4 p t room) → packed (translate v4 p t room) / 0x10000000000 ≡ size (translate v4 p t room)
+    go (Listed.sent x e r) = r .size ∙ sym (ap size e)
+    go (Listed.refused n a b e r) = r .size ∙ sym (ap size e)
+
+octets-take : (n : ℕ) (p : List ℕ) → Octets p → Octets (take n p)
+octets-take zero p h i = omega arith
+octets-take (suc n) [] h i = omega arith
+octets-take (suc n) (x ∷ p) h zero = h 0
+octets-take (suc n) (x ∷ p) h (suc i) = octets-take n p (λ j. h (suc j)) i
+
+-- so the answers tell where each result lies
+pub lengths-told : (v : Version) (t ls p : List ℕ) (room : ℕ) → Octets p
+    → let os = outcomes v t (cut ls p) room in lengthsIn (answers os) ≡ sizes os
+unfolding outcomes cut answers lengthsIn sizes
+lengths-told v t [] p room h = refl
+lengths-told v t (n ∷ ns) p room h =
+    λ i. length-told v (take n p) t room (octets-take n p h) i
+    ∷ lengths-told v t ns (drop n p) (room - length (result (translate v (take n p) t room))) (octets-drop p n h) i
+
 -- THE OUTPUT
 
 sizes-sum : (os : List Outcome) → sum (sizes os) ≡ length (results os)
@@ -129,7 +167,8 @@ result-at : (os : List Outcome) (behind : List ℕ) (i : ℕ) (x : List ℕ) →
 unfolding results sizes sum
 result-at [] behind i x h e = absurd (omega arith)
 result-at (o ∷ os) behind zero x h e =
-    ap (λ (l : List ℕ). take (length x) l) (append-assoc (result o) (results os) behind ∙ ap (λ (o : Outcome). result o ++ (results os ++ behind)) e)
+    ap (λ (l : List ℕ). take (length x) l)
+    (append-assoc (result o) (results os) behind ∙ ap (λ (o : Outcome). result o ++ (results os ++ behind)) e)
     ∙ unfold result in take-append-seam x (results os ++ behind)
 result-at (o ∷ os) behind (suc i) x h e =
     ap (λ (l : List ℕ). take (length x) (drop (size o + sentBefore os i) l)) (append-assoc (result o) (results os) behind)
@@ -138,7 +177,8 @@ result-at (o ∷ os) behind (suc i) x h e =
     ∙ result-at os behind i x (omega arith) e
 
 -- results that lie within a buffer, laid over it
-pub results-laid : (os : List Outcome) (buffer : List ℕ) → length (results os) ≤ length buffer → Laid os buffer (splice buffer 0 (results os))
+pub results-laid : (os : List Outcome) (buffer : List ℕ) → length (results os) ≤ length buffer
+    → Laid os buffer (splice buffer 0 (results os))
 results-laid os buffer h =
     let e : splice buffer 0 (results os) ≡ results os ++ drop (length (results os)) buffer = splice-front buffer (results os) in
     record {
@@ -170,7 +210,8 @@ burst-laid v ls p t buffer places h =
 pub unfit-bad : (ls p : List ℕ) (places : ℕ) → any (unfit ls p places) ≡ true → BadBurst ls p places
 unfit-bad ls p places h = go (ltb most (length ls)) refl
   where
-    third : ltb most (length ls) ≡ false → differs (sum ls) (length p) ≡ false → (b : Bool) → ltb places (length ls) ≡ b → BadBurst ls p places
+    third : ltb most (length ls) ≡ false → differs (sum ls) (length p) ≡ false → (b : Bool) → ltb places (length ls) ≡ b
+        → BadBurst ls p places
     third e f true g = fewPlaces (ltb-true places (length ls) g)
     third e f false g = let z : false ≡ true = rw (e, f, g) at h in absurd (true≢false (sym z))
 
@@ -200,3 +241,12 @@ when-19 v ls p t room places r e = unfit-bad ls p places (go (any (unfit ls p pl
         let z : Sent (results (outcomes v t (cut ls p) room)) ≡ Refused r = sym (burst-sent v ls p t room places q) ∙ e in
         let n : _≡_ {A = ℕ} 0 1 = cc in
         absurd (omega arith)
+
+-- and then nothing is written
+pub kept-19 : (v : Version) (ls p t buffer places : List ℕ) → BadBurst ls p (length places)
+    → (overlay (burst v ls p t (length buffer) (length places)) buffer ≡ buffer) × (answered v ls p t (length buffer) places ≡ places)
+unfolding overlay
+kept-19 v ls p t buffer places h = (
+  ap (λ (o : Outcome). overlay o buffer) (given-19 v ls p t (length buffer) (length places) h),
+  answered-kept v ls p t (length buffer) places (bad-unfit ls p (length places) h),
+)

@@ -9,7 +9,8 @@ use Rattle.rules.specs.Trip.{Stop, call, trip}
 use Rattle.rules.specs.declared.Refusal.{Refusal}
 use Rattle.rules.proofs.Trips.{trip-outcome}
 use Rattle.burst.specs.Burst.{most, cut, result, outcomes, results, Fit}
-use Rattle.burst.specs.BurstTrip.{sentOn, lengthsOf, arrived, withLater, BurstTrip, outcomesAt, burstTrip, behind, goneBy, unused, inTurn}
+use Rattle.burst.specs.BurstTrip.{sentOn, lengthsOf, arrived, withLater, BurstTrip, outcomesAt, burstTrip}
+use Rattle.burst.specs.BurstTrip.{behind, goneBy, unused, inTurn}
 use Rattle.burst.proofs.Passing.{cut-sent, trip-refused}
 use Rattle.burst.proofs.Deliveries.{burst-step, next-fit}
 
@@ -33,7 +34,7 @@ in-turn-step s ss (p ∷ ps) = go (λ z zs. in-turn-step z zs ps) (call s p) ref
     start : (o : Outcome) → call s p ≡ o → withLater (outcomesAt s (p ∷ ps)) (inTurn ss (sentOn (outcomesAt s (p ∷ ps))))
         ≡ withLater (o ∷ others (room - length (result o))) (inTurn ss (sentOn (o ∷ others (room - length (result o)))))
     start o e =
-        ap (λ (o : Outcome). withLater (o ∷ others (room - length (result o))) (inTurn ss (sentOn (o ∷ others (room - length (result o)))))) e
+        ap (λ (o : Outcome). let os = o ∷ others (room - length (result o)) in withLater os (inTurn ss (sentOn os))) e
 
     end : (o : Outcome) → call s p ≡ o → inTurn (goneBy o s ss (λ x. unused ss x)) ps ≡ inTurn (unused (s ∷ ss) p) ps
     end o e = ap (λ (o : Outcome). inTurn (goneBy o s ss (λ x. unused ss x)) ps) (sym e)

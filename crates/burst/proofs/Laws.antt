@@ -105,7 +105,8 @@ module _ (v : Version) (ls p t : List ℕ) (room : ℕ) where
   unfolding burst verdict
   burst-refused places h = rw h
 
-  pub burst-sent : (places : ℕ) → any (unfit ls p places) ≡ false → burst v ls p t room places ≡ Sent (results (outcomes v t (cut ls p) room))
+  pub burst-sent : (places : ℕ) → any (unfit ls p places) ≡ false
+      → burst v ls p t room places ≡ Sent (results (outcomes v t (cut ls p) room))
   unfolding burst verdict
   burst-sent places h = rw h
 

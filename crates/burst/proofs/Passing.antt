@@ -85,7 +85,8 @@ unfolding trip
 trip-refused s ss p r e = ap (λ (o : Outcome). onward o s ss (λ o. trip ss o) .outcome) e
 
 -- calls at a stop, then single trips from there on
-pub single-step : (s : Stop) (ss : List Stop) (ps : List (List ℕ)) → withLater (calls s ps) (single ss (sentOn (calls s ps))) ≡ single (s ∷ ss) ps
+pub single-step : (s : Stop) (ss : List Stop) (ps : List (List ℕ))
+    → withLater (calls s ps) (single ss (sentOn (calls s ps))) ≡ single (s ∷ ss) ps
 unfolding calls single withLater sentOn
 single-step s ss [] = refl
 single-step s ss (p ∷ ps) = go (single-step s ss ps) (call s p) refl

@@ -8,26 +8,18 @@ use native.Mathlib.Omega.{arith}
 use lib.Dec.{ltb}
 use lib.ListN.{length}
 use borrow.Author.Tests.{le-ltb, lt-ltb, ltb-true, ltb-false}
-use Rattle.rules.specs.Answer.{roomRow, Outcome, Sent, Refused, settle}
+use Rattle.rules.specs.Answer.{Outcome, Sent, Refused, settle}
 use Rattle.rules.specs.Trip.{Version, v4, v6, translate}
 use Rattle.rules.specs.declared.Refusal.{Refusal}
-use Rattle.rules.proofs.Rows.{unless-sent, settle-sent, sent-settle}
+use Rattle.rules.proofs.Rows.{settle-sent, sent-settle}
+use Rattle.rules.proofs.SentFields.{sent6-size, sent4-size}
 use Rattle.rules.proofs.Deciding.{settled6, settled4}
 use Rattle.answer.proofs.Settling.{room-short, room-enough}
-use Rattle.burst.specs.Alone.{size}
 
 -- what is decided, and what its length is held against
 settled : (v : Version) (p t : List ℕ) → (o : Outcome) × ((room : ℕ) → translate v p t room ≡ settle room o)
 settled v6 p t = (_, settled6 p t)
 settled v4 p t = (_, settled4 p t)
-
-sent-within : (room : ℕ) (o : Outcome) (x : List ℕ) → settle room o ≡ Sent x → length x ≤ room
-unfolding settle
-sent-within room (Sent y) x e =
-    let u = unless-sent (roomRow room y ∷ []) (Sent y) x e in
-    let same : length y ≡ length x = ap size (u .1) in
-    omega (arith, ltb-false room (length y) (u .0 .0 .0))
-sent-within room (Refused r) x e = let z : _≡_ {A = ℕ} 0 1 = cc in absurd (omega arith)
 
 refused-less : (room less : ℕ) (o : Outcome) (r : Refusal) → settle room o ≡ Refused r → less ≤ room → settle less o ≡ Refused r
 refused-less room less (Sent y) r e h = go (ltb room (length y)) refl
@@ -42,10 +34,11 @@ refused-less room less (Sent y) r e h = go (ltb room (length y)) refl
         absurd (omega arith)
 refused-less room less (Refused ρ) r e h = unfold settle in e
 
-module _ (v : Version) (p t : List ℕ) (room : ℕ) where
-  pub call-within : (x : List ℕ) → translate v p t room ≡ Sent x → length x ≤ room
-  call-within x e = let (o, s) = settled v p t in sent-within room o x (sym (s room) ∙ e)
+pub call-within : (v : Version) (p t : List ℕ) (room : ℕ) (x : List ℕ) → translate v p t room ≡ Sent x → length x ≤ room
+call-within v6 p t room x e = sent6-size p t room x e
+call-within v4 p t room x e = sent4-size p t room x e
 
+module _ (v : Version) (p t : List ℕ) (room : ℕ) where
   pub sent-also : (x : List ℕ) (other : ℕ) → translate v p t room ≡ Sent x → length x ≤ other → translate v p t other ≡ Sent x
   sent-also x other e h =
       let (o, s) = settled v p t in s other ∙ settle-sent other o x (sent-settle room o x (sym (s room) ∙ e)) h

@@ -2,7 +2,7 @@
 -- result lie. Nothing here goes through the list from its front.
 use mathlib.Core.Path.{_≡_}
 use mathlib.Core.List.{List, [], _∷_}
-use Prim.Native.Nat.{ℕ, _-_, _≤_, _<_}
+use Prim.Native.Nat.{ℕ, _-_, _/_, _≤_, _<_}
 use lib.ListN.{length, take, drop, getD}
 use Rattle.rules.specs.Answer.{Outcome, Sent, Refused, packed}
 use Rattle.rules.specs.Trip.{Version, translate}
@@ -32,6 +32,11 @@ sentBefore os i = sum (take i (sizes os))
 pub record Alone (v : Version) (lengths octets table : List ℕ) (room : ℕ) (os : List Outcome) : Type 0 where
   pub count : length os ≡ length lengths
   pub each : (i : ℕ) → i < length lengths → outcomeAt os i ≡ translate v (packet lengths octets i) table (room - sentBefore os i)
+
+-- the lengths that answers tell: bits 40 and up of each
+unfoldable pub lengthsIn : (answers : List ℕ) → List ℕ
+lengthsIn [] = []
+lengthsIn (a ∷ rest) = a / 0x10000000000 ∷ lengthsIn rest
 
 -- what the places for answers hold: an answer for each packet, and past the burst what was there
 pub record Told (os : List Outcome) (before after : List ℕ) : Type 0 where

@@ -59,7 +59,8 @@ onward (Refused r) s ss os rest = record { outcomes = allRefused r os; buffers =
 unfoldable pub burstTrip : List Stop → (lengths octets : List ℕ) → BurstTrip
 burstTrip [] ls octets = record { outcomes = arrived (cut ls octets); buffers = [] }
 burstTrip (s ∷ ss) ls octets =
-    onward (burst (s .version) ls octets (s .table) (length (s .buffer)) most) s ss (outcomesAt s (cut ls octets)) (λ ns o. burstTrip ss ns o)
+    let o = burst (s .version) ls octets (s .table) (length (s .buffer)) most in
+    onward o s ss (outcomesAt s (cut ls octets)) (λ ns x. burstTrip ss ns x)
 
 -- the last of some buffers, which at the end of a trip is that of the far gateway
 unfoldable pub lastOf : (before : List ℕ) → List (List ℕ) → List ℕ

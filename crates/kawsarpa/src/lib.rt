@@ -52,8 +52,8 @@ pub extern "C" fn kawsarpa_burst_ipv6(
 ) -> u64
     ensures { λ r. ⌜ (r ≡ packed (burst v6 (now (lengths .entry)) (now (packets .entry)) (now (table .entry)) (length (now (out .entry)))
         (length (now (answers .entry)))))
-        × (now (out .exit) ≡ overlay (burst v6 (now (lengths .entry)) (now (packets .entry)) (now (table .entry)) (length (now (out .entry)))
-        (length (now (answers .entry)))) (now (out .entry)))
+        × (now (out .exit) ≡ overlay (burst v6 (now (lengths .entry)) (now (packets .entry)) (now (table .entry))
+        (length (now (out .entry))) (length (now (answers .entry)))) (now (out .entry)))
         × (now (answers .exit) ≡ answered v6 (now (lengths .entry)) (now (packets .entry)) (now (table .entry)) (length (now (out .entry)))
         (now (answers .entry)))
         ⌝ }
@@ -71,8 +71,8 @@ pub extern "C" fn kawsarpa_burst_ipv4(
 ) -> u64
     ensures { λ r. ⌜ (r ≡ packed (burst v4 (now (lengths .entry)) (now (packets .entry)) (now (table .entry)) (length (now (out .entry)))
         (length (now (answers .entry)))))
-        × (now (out .exit) ≡ overlay (burst v4 (now (lengths .entry)) (now (packets .entry)) (now (table .entry)) (length (now (out .entry)))
-        (length (now (answers .entry)))) (now (out .entry)))
+        × (now (out .exit) ≡ overlay (burst v4 (now (lengths .entry)) (now (packets .entry)) (now (table .entry))
+        (length (now (out .entry))) (length (now (answers .entry)))) (now (out .entry)))
         × (now (answers .exit) ≡ answered v4 (now (lengths .entry)) (now (packets .entry)) (now (table .entry)) (length (now (out .entry)))
         (now (answers .entry)))
         ⌝ }

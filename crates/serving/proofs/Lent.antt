@@ -20,7 +20,8 @@ lent o a x =
     ∙ sym (append-assoc (take a o) x (drop (a + length x) o))
 
 -- an outcome laid over it
-pub lent-outcome : (buffer : List ℕ) (used : ℕ) (o : Outcome) → take used buffer ++ overlay o (drop used buffer) ≡ splice buffer used (result o)
+pub lent-outcome : (buffer : List ℕ) (used : ℕ) (o : Outcome)
+    → take used buffer ++ overlay o (drop used buffer) ≡ splice buffer used (result o)
 unfolding result overlay
 lent-outcome buffer used (Sent x) = lent buffer used x
 lent-outcome buffer used (Refused r) = take-append-drop used buffer ∙ sym (splice-nil buffer used)

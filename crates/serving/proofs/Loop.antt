@@ -87,7 +87,8 @@ serving-next v ls p t out₀ places₀ out places out′ i place used answer s h
       at = ap (λ (j : ℕ). j + n) (s .at) ∙ sym (ap sum more ∙ sum-snoc front n);
       done = run-as (next (s .done) (result o) _ (w .holds .holds) (w .holds .count) (sym (zero-add used)) (omega arith))
           (sym (ap results after ∙ results-snoc before o));
-      told = chain places₀ 0 (answers before) (packed o ∷ []) (s .told) stored (sym (zero-add (length (answers before)) ∙ count)) (omega arith)
+      told = chain places₀ 0 (answers before) (packed o ∷ []) (s .told) stored
+          (sym (zero-add (length (answers before)) ∙ count)) (omega arith)
           ∙ ap (λ (l : List ℕ). splice places₀ 0 l) (sym (ap answers after ∙ answers-snoc before o));
       same = k ∙ s .same;
       kept = length-set places i answer ∙ s .kept;

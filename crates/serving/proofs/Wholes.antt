@@ -40,8 +40,8 @@ module _ (v : Version) (ls p t out places : List ℕ) (answer : ℕ) where
     sent : burst v ls p t (length out) (length places) ≡ Sent (results (outcomes v t (cut ls p) (length out)))
     sent = burst-sent v ls p t (length out) (length places) h
 
-    pub whole-served : (size : ℕ) (out′ places′ : List ℕ) → Served v ls p t out places size out′ places′ → answer ≡ packedFields 0 0 0 0 size
-        → Whole v ls p t out places answer out′ places′
+    pub whole-served : (size : ℕ) (out′ places′ : List ℕ) → Served v ls p t out places size out′ places′
+        → answer ≡ packedFields 0 0 0 0 size → Whole v ls p t out places answer out′ places′
     unfolding overlay packed
     whole-served size out′ places′ s e = (
       e ∙ ap (λ (n : ℕ). packedFields 0 0 0 0 n) (sym (s .holds .count)) ∙ ap packed (sym sent),
@@ -50,7 +50,8 @@ module _ (v : Version) (ls p t out places : List ℕ) (answer : ℕ) where
     )
 
     pub whole-unsound : sound t ≡ false → (w : ℕ) (places′ : List ℕ) → w ≡ packed (Refused (plain 1))
-        → places′ ≡ splice places 0 (replicate (length ls) w) → answer ≡ packedFields 0 0 0 0 0 → Whole v ls p t out places answer out places′
+        → places′ ≡ splice places 0 (replicate (length ls) w) → answer ≡ packedFields 0 0 0 0 0
+        → Whole v ls p t out places answer out places′
     unfolding overlay packed
     whole-unsound u w places′ e f g =
         let n : ℕ = length ls in

@@ -1,6 +1,6 @@
 // Reads calls from standard input, makes each, and prints its name and what came of it: the answer's fields and the octets sent, TEID and
-// sequence number of the packet, or of a burst its answer, the places for answers and the octets sent. The second program writes the input and what is to be printed (tests/second/src/program.rs, which
-// says how a call stands there).
+// sequence number of the packet, or of a burst its answer, the places for answers and the octets sent. The second program writes the input
+// and what is to be printed (tests/second/src/program.rs, which says how a call stands there).
 use answer::Answer;
 use libc::STDIN_FILENO;
 use libc::STDOUT_FILENO;

@@ -1,10 +1,12 @@
 //! What the program `worked` of the library reads, and the lines that it should
-//! print: the calls of the worked packets, their readings, then cases of a seed.
+//! print: the calls of the worked packets, their readings, worked bursts, then cases
+//! and bursts of a seed.
 
 use crate::answer::Answer;
+use crate::burst::cases::Burst;
 use crate::generate::{self, Call, Case};
 use crate::sequence::cases::Reading;
-use crate::{sequence, vectors, worked};
+use crate::{burst, sequence, vectors, worked};
 
 /// Standard input and output of the program.
 pub struct Run {
@@ -17,6 +19,10 @@ pub struct Run {
 const MAX_PACKET: usize = 400;
 const MAX_TABLE: usize = 500;
 const PACKETS_PER_TABLE: u64 = 64;
+const MAX_BURST: usize = 800;
+
+/// Bursts of a seed for each 100 cases of a kind.
+const BURSTS_PER_100: u64 = 10;
 
 /// Tables tried before the cases wanted are given up.
 const MAX_INDEX: u64 = 100_000;
@@ -26,6 +32,12 @@ const SAME_TABLE: u16 = 0xffff;
 
 /// Added to the IP version, it says: the reader.
 const READER: u8 = 0x80;
+
+/// Added to the IP version, it says: a burst.
+const BURST: u8 = 0x40;
+
+/// What stands in the places for answers before a burst.
+const BEFORE: u64 = u64::MAX;
 
 fn version(call: Call) -> u8 {
     match call {
@@ -45,7 +57,7 @@ impl Run {
 
     /// The lengths and the name before a call's octets in the input: name length (1
     /// octet), function (1), table length (2), packet length (4), room (4), name.
-    /// The function is the IP version, and [`READER`] more for the reader.
+    /// The function is the IP version, and [`READER`] more for the reader, [`BURST`] for a burst.
     fn begin(&mut self, name: &str, function: u8, table: u16, packet: usize, room: usize) {
         self.input.extend([name.len() as u8, function]);
         self.input.extend(table.to_be_bytes());
@@ -54,20 +66,24 @@ impl Run {
         self.input.extend(name.as_bytes());
     }
 
-    /// A call in the input: its beginning, then table and packet; table length FFFF
-    /// is the table of the call before. In the output: the name, the answer's
-    /// fields, the octets sent.
-    fn add(&mut self, name: &str, call: Call, packet: &[u8], table: &[u8], room: usize) {
+    /// The beginning, then the table; table length FFFF is the table of the call before.
+    fn begin_with(&mut self, name: &str, function: u8, packet: usize, table: &[u8], room: usize) {
         let table_length = if self.last_table == table {
             SAME_TABLE
         } else {
             table.len() as u16
         };
-        self.begin(name, version(call), table_length, packet.len(), room);
+        self.begin(name, function, table_length, packet, room);
         if table_length != SAME_TABLE {
             self.input.extend(table);
             self.last_table = table.to_vec();
         }
+    }
+
+    /// A call in the input: its beginning, then table and packet. In the output: the
+    /// name, the answer's fields, the octets sent.
+    fn add(&mut self, name: &str, call: Call, packet: &[u8], table: &[u8], room: usize) {
+        self.begin_with(name, version(call), packet.len(), table, room);
         self.input.extend(packet);
 
         let mut out = vec![0; room];
@@ -83,6 +99,28 @@ impl Run {
             "{name}: {number} {icmp_type} {icmp_code} {icmp_pointer} {length} "
         ));
         self.output.push_str(&vectors::hex(&out[..length as usize]));
+        self.output.push('\n');
+    }
+
+    /// A burst in the input: in the place of a packet the number of lengths (1 octet)
+    /// and of places for answers (1), the lengths (4 each), the packets. In the
+    /// output: the name, the burst's answer, every place, the octets sent.
+    fn add_burst(&mut self, name: &str, burst: &Burst) {
+        let mut octets = vec![burst.lengths.len() as u8, burst.places as u8];
+        octets.extend(burst.lengths.iter().flat_map(|length| length.to_be_bytes()));
+        octets.extend(&burst.packets);
+        let function = BURST | version(burst.call);
+        self.begin_with(name, function, octets.len(), &burst.table, burst.room);
+        self.input.extend(octets);
+
+        self.output.push_str(&format!("{name}: {:016x} ", burst.answer.pack()));
+        for place in 0..burst.places {
+            let answer = burst.answers.get(place).map_or(BEFORE, |answer| answer.pack());
+            self.output.push_str(&format!("{answer:016x} "));
+        }
+        for octet in &burst.sent {
+            self.output.push_str(&format!("{octet:02x}"));
+        }
         self.output.push('\n');
     }
 
@@ -103,7 +141,8 @@ impl Run {
 }
 
 /// The worked packets that are calls, but longer ones than `max_worked`, the
-/// worked packets for the readers, then `per_kind` cases of each kind.
+/// worked packets for the readers, the worked bursts, then `per_kind` cases of each
+/// kind and some bursts.
 pub fn run(seed: u64, per_kind: u64, max_worked: usize) -> Result<Run, String> {
     let mut run = Run::new();
     for worked in worked::calls() {
@@ -121,9 +160,18 @@ pub fn run(seed: u64, per_kind: u64, max_worked: usize) -> Result<Run, String> {
     for worked in sequence::worked::readings() {
         run.add_reading(worked.words, &worked.reading);
     }
+    for worked in worked::burst::bursts() {
+        if worked.burst.packets.len() <= max_worked {
+            run.add_burst(worked.words, &worked.burst);
+        }
+    }
     for ((index, packet), case) in vectors::select_from(cases(seed), per_kind, MAX_PACKET)? {
         let name = format!("{} {seed}:{index}:{packet}", case.kind.name());
         run.add(&name, case.call, &case.packet, &case.table, case.room);
+    }
+    let wanted = per_kind * BURSTS_PER_100 / 100;
+    for (index, burst) in short_bursts(seed).take(wanted as usize) {
+        run.add_burst(&format!("burst {seed}:{index}"), &burst);
     }
     Ok(run)
 }
@@ -136,4 +184,14 @@ fn cases(seed: u64) -> impl Iterator<Item = ((u64, u64), Case)> {
                 .map(move |packet| ((index, packet), generate::another(seed, index, packet)))
         })
         .filter(|(_, case)| case.table.len() <= MAX_TABLE)
+}
+
+/// Bursts that are short enough, with a table that is.
+fn short_bursts(seed: u64) -> impl Iterator<Item = (u64, Burst)> {
+    burst::cases::bursts(seed, 0).filter(|(_, burst)| {
+        burst.packets.len() <= MAX_BURST
+            && burst.table.len() <= MAX_TABLE
+            && burst.room <= MAX_BURST
+            && burst.places <= u8::MAX as usize
+    })
 }

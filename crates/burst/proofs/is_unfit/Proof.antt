@@ -19,16 +19,21 @@ returns-2 c =
     let a = c .before .before .before .before .before .args in
     let h = c .before .before .if1 .left in
     let k = c .if2 .taken in
-    rw (le-ltb most (length (now (a .lengths))) (omega arith),
-    ne-eqb (sum (now (a .lengths))) (length (now (a .packets))) (λ e. omega (arith, k, e, c .before .sum-of .ensures)))
+    rw (
+      le-ltb most (length (now (a .lengths))) (omega arith),
+      ne-eqb (sum (now (a .lengths))) (length (now (a .packets))) (λ e. omega (arith, k, e, c .before .sum-of .ensures)),
+    )
 
 returns-3 : tie.Need-returns-3
 returns-3 c =
     let a = c .before .before .before .before .before .args in
     let h = c .before .before .if1 .left in
     let k = c .if2 .left in
-    rw (le-ltb most (length (now (a .lengths))) (omega arith),
-    eq-eqb (sum (now (a .lengths))) (length (now (a .packets))) (omega (arith, k, c .before .sum-of .ensures)), or-false)
+    rw (
+      le-ltb most (length (now (a .lengths))) (omega arith),
+      eq-eqb (sum (now (a .lengths))) (length (now (a .packets))) (omega (arith, k, c .before .sum-of .ensures)),
+      or-false,
+    )
 
 pub is-unfit-spec : {M : Type 1} → statement M
 is-unfit-spec = tie.close (tie.spec returns (λ c κs. search needs) returns-2 returns-3)

@@ -52,8 +52,8 @@ loop-again c =
     let r : PacksAt (l .used) (translate (versionOf (a .ipv6)) (take n (drop (l .place) p)) (now (a .table)) (length (l .out) - l .used))
     (l .out) (one .result) _ = rw cut at (one .ensures) in
     rw (add-one, w .ensures .0, c .size-of .ensures)
-    (serving-next (versionOf (a .ipv6)) (now (a .lengths)) p (now (a .table)) (now (a .out)) (now (a .answers)) (l .out) (l .answers) _ (l .i)
-    (l .place) (l .used) (one .result) (l .inv) (omega arith) (s .pre .0 .placed) r (one .kept .1 .1 .1 .1 .1 .0))
+    (serving-next (versionOf (a .ipv6)) (now (a .lengths)) p (now (a .table)) (now (a .out)) (now (a .answers)) (l .out) (l .answers) _
+    (l .i) (l .place) (l .used) (one .result) (l .inv) (omega arith) (s .pre .0 .placed) r (one .kept .1 .1 .1 .1 .1 .0))
 
 returns : tie.Need-returns Inv-loop μ-loop
 returns c =

@@ -18,16 +18,20 @@ returns c =
 
 fill-requires : tie.Need-fill-requires
 fill-requires c κs =
-    let a = c .before .before .before .before .before .before .before .before .before .before .before .before .before .args in
-    let f = sym (c .before .before .before .before .before .before .before .is-unfit .ensures) ∙ c .before .before .before .before .before .before .if1 .left in
+    let fit-by = c .before .before .before .before .before .before in
+    let a = fit-by .before .before .before .before .before .before .before .args in
+    let f = sym (fit-by .before .is-unfit .ensures) ∙ fit-by .if1 .left in
     omega (arith, fit (now (a .lengths)) (now (a .packets)) _ f .placed)
 
 returns-2 : tie.Need-returns-2
 returns-2 c =
-    let f = sym (c .before .before .before .before .before .before .before .before .before .before .before .is-unfit .ensures) ∙ c .before .before .before .before .before .before .before .before .before .before .if1 .left in
-    let u = sym (c .before .before .before .before .before .before .before .before .before .sound .ensures) ∙ not-true _ (c .before .before .before .before .before .before .before .before .if2 .taken) in
+    let packed-by = c .before .before .before .before in
+    let judged-by = packed-by .before .before .before .before in
+    let f = sym (judged-by .before .before .before .is-unfit .ensures) ∙ judged-by .before .before .if1 .left in
+    let u = sym (judged-by .before .sound .ensures) ∙ not-true _ (judged-by .if2 .taken) in
     whole-unsound _ _ _ _ _ _ _ f u _ _
-    (packed-named (plain 1) _ _ _ (c .before .before .before .before .before .before .unsound .ensures) (c .before .before .before .before .before .refused2 .ensures .0) (c .before .before .before .before .pack2 .ensures))
+    (packed-named (plain 1) _ _ _ (packed-by .before .before .unsound .ensures) (packed-by .before .refused2 .ensures .0)
+    (packed-by .pack2 .ensures))
     (c .before .before .before .fill .ensures) (c .sent .ensures)
 
 serve-requires : tie.Need-serve-requires
@@ -38,8 +42,10 @@ serve-requires c κs = (
 
 returns-3 : tie.Need-returns-3
 returns-3 c =
-    let f = sym (c .before .before .before .before .before .before .before .before .before .before .before .is-unfit .ensures) ∙ c .before .before .before .before .before .before .before .before .before .before .if1 .left in
-    whole-served _ _ _ _ _ _ _ f _ _ _ (c .before .before .before .before .before .serve .ensures) (c .sent2 .ensures)
+    let served-by = c .before .before .before .before .before in
+    let fit-by = served-by .before .before .before .before .before in
+    let f = sym (fit-by .before .is-unfit .ensures) ∙ fit-by .if1 .left in
+    whole-served _ _ _ _ _ _ _ f _ _ _ (served-by .serve .ensures) (c .sent2 .ensures)
 
 pub whole-spec : {M : Type 1} → statement M
 whole-spec =
