@@ -365,7 +365,7 @@ static inline uint64_t behave(const struct kawsarpa_entry *e, const struct kawsa
     }
 }
 
-/* Waypoint, D and Di are expanded in place in both functions, E6 and E4 called. So the compiler chose before there was a
+/* Waypoint, D and Di are expanded in place in all three functions of IPv6, E6 and E4 called. So the compiler chose before there was a
    checksum, and counts from then can be held against those from now. */
 
 __attribute__((flatten)) uint64_t anchor_at_entry(const struct kawsarpa_entry *e, const struct kawsarpa_policy *y, const uint8_t *packet,
@@ -381,27 +381,34 @@ uint64_t anchor_at_rule(const struct kawsarpa_rule *r, const uint8_t *packet, si
     return bad_header4(packet) ? KAWSARPA_ANSWER_BAD_HEADER4 : at_d4(r, packet, size, out, room);
 }
 
+__attribute__((flatten)) uint64_t anchor_ipv6_sound(const struct anchor_table *t, const uint8_t *packet, size_t size, uint8_t *out,
+                                                    size_t room)
+{
+    if (malformed(packet, size))
+        return KAWSARPA_ANSWER_MALFORMED;
+    const struct kawsarpa_entry *e = anchor_find_entry(t, packet + 24);
+    return e == NULL ? KAWSARPA_ANSWER_NO_MATCH : behave(e, t->policies + e->policy, packet, size, out, room);
+}
+
+uint64_t anchor_ipv4_sound(const struct anchor_table *t, const uint8_t *packet, size_t size, uint8_t *out, size_t room)
+{
+    if (malformed4(packet, size))
+        return KAWSARPA_ANSWER_MALFORMED;
+    if (bad_header4(packet))
+        return KAWSARPA_ANSWER_BAD_HEADER4;
+    const struct kawsarpa_rule *r = anchor_find_rule(t, packet + 16);
+    return r == NULL ? KAWSARPA_ANSWER_NO_MATCH : at_d4(r, packet, size, out, room);
+}
+
 __attribute__((flatten)) uint64_t anchor_translate_ipv6(const uint8_t *packet, size_t size, const uint8_t *table, size_t table_len,
                                                         uint8_t *out, size_t room)
 {
     struct anchor_table t;
-    if (!anchor_sound(table, table_len, &t))
-        return KAWSARPA_ANSWER_UNSOUND;
-    if (malformed(packet, size))
-        return KAWSARPA_ANSWER_MALFORMED;
-    const struct kawsarpa_entry *e = anchor_find_entry(&t, packet + 24);
-    return e == NULL ? KAWSARPA_ANSWER_NO_MATCH : behave(e, t.policies + e->policy, packet, size, out, room);
+    return anchor_sound(table, table_len, &t) ? anchor_ipv6_sound(&t, packet, size, out, room) : KAWSARPA_ANSWER_UNSOUND;
 }
 
 uint64_t anchor_translate_ipv4(const uint8_t *packet, size_t size, const uint8_t *table, size_t table_len, uint8_t *out, size_t room)
 {
     struct anchor_table t;
-    if (!anchor_sound(table, table_len, &t))
-        return KAWSARPA_ANSWER_UNSOUND;
-    if (malformed4(packet, size))
-        return KAWSARPA_ANSWER_MALFORMED;
-    if (bad_header4(packet))
-        return KAWSARPA_ANSWER_BAD_HEADER4;
-    const struct kawsarpa_rule *r = anchor_find_rule(&t, packet + 16);
-    return r == NULL ? KAWSARPA_ANSWER_NO_MATCH : at_d4(r, packet, size, out, room);
+    return anchor_sound(table, table_len, &t) ? anchor_ipv4_sound(&t, packet, size, out, room) : KAWSARPA_ANSWER_UNSOUND;
 }

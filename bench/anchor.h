@@ -18,6 +18,12 @@ uint64_t anchor_at_entry(const struct kawsarpa_entry *entry, const struct kawsar
 
 uint64_t anchor_at_rule(const struct kawsarpa_rule *rule, const uint8_t *packet, size_t packet_len, uint8_t *out, size_t out_len);
 
+uint64_t anchor_burst_ipv6(const uint8_t *packets, size_t packets_len, const uint32_t *lengths, size_t count, const uint8_t *table,
+                           size_t table_len, uint8_t *out, size_t out_len, uint64_t *answers, size_t answers_count);
+
+uint64_t anchor_burst_ipv4(const uint8_t *packets, size_t packets_len, const uint32_t *lengths, size_t count, const uint8_t *table,
+                           size_t table_len, uint8_t *out, size_t out_len, uint64_t *answers, size_t answers_count);
+
 uint64_t anchor_loss_offer(struct kawsarpa_loss_row *rows, size_t count, uint32_t teid, uint16_t number);
 
 uint64_t anchor_sequence_ipv6(const uint8_t *packet, size_t packet_len);
@@ -34,6 +40,11 @@ struct anchor_table {
 
 /* Whether the table is sound; if it is, where its records stand. */
 bool anchor_sound(const uint8_t *table, size_t table_len, struct anchor_table *records);
+
+/* The calls with a table that is known to be sound: single calls and bursts both make them. */
+uint64_t anchor_ipv6_sound(const struct anchor_table *records, const uint8_t *packet, size_t packet_len, uint8_t *out, size_t out_len);
+
+uint64_t anchor_ipv4_sound(const struct anchor_table *records, const uint8_t *packet, size_t packet_len, uint8_t *out, size_t out_len);
 
 /* The longest match, or NULL. */
 const struct kawsarpa_entry *anchor_find_entry(const struct anchor_table *records, const uint8_t *address);

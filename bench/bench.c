@@ -2,18 +2,16 @@
 
        kind|octets|records|order|load|subject...
 
-   All subjects of a line are measured together, batch by batch. An offer's kind is its arrival and its records are rows; a reader's kind
-   is IPv6 or IPv4. */
+   All subjects of a line are measured together, batch by batch. Of bursts the nanoseconds are a packet's, the instructions a whole
+   burst's. An offer's kind is its arrival and its records are rows; a reader's kind is IPv6 or IPv4. */
 #include "anchor.h"
+#include "bench.h"
 #include "cases.h"
 #include "measure.h"
 
 #include <stdio.h>
 #include <stdlib.h>
 #include <string.h>
-
-/* The table of a kind with 8 records in order. */
-enum { EIGHT_IN_ORDER = 1 };
 
 enum { STRIDE = 1600 }; /* an odd number of cache lines, so that packets spread over all sets of a cache */
 
@@ -99,7 +97,7 @@ static uint64_t library_reader4(const uint8_t *packet, size_t packet_len, const 
     return kawsarpa_sequence_ipv4(packet, packet_len);
 }
 
-static void fail(const char *what, const char *kind)
+void fail(const char *what, const char *kind)
 {
     fprintf(stderr, "bench: %s: %s\n", kind, what);
     exit(1);
@@ -123,7 +121,7 @@ static void check(const struct kind *kind, const struct load *l, call *const sen
 
 static const char *const names[SUBJECTS_MOST] = {"memcpy", "bare", "anchor", "library"};
 
-static void print_times(const char *where, const double ns[], const char *const called[], unsigned int n)
+void print_times(const char *where, const double ns[], const char *const called[], unsigned int n)
 {
     printf("%s", where);
     for (unsigned int s = 0; s < n; s++)
@@ -246,6 +244,7 @@ int main(int argc, char **argv)
         struct offers offers = make_offers(&arrivals[0], 1, rows);
         measure_instructions(&none, nothing, "nothing");
         measure_offer_instructions(&offers, nothing_offered, "nothing offered");
+        measure_no_burst("no burst");
     }
     for (unsigned int k = 0; k < kind_count; k++)
         for (unsigned int s = 0; s < SIZES; s++)
@@ -254,9 +253,10 @@ int main(int argc, char **argv)
     for (unsigned int k = 0; k < checksum_kind_count; k++)
         for (unsigned int s = 0; s < SIZES; s++)
             measure_case(count, &checksum_kinds[k], sizes[s], EIGHT_IN_ORDER);
+    measure_bursts(count);
     for (unsigned int k = 0; k < kind_count; k++) {
-        /* kinds that differ in segments alone: the tables cost the same */
-        if (k + 1 < kind_count && kinds[k].behaviour == kinds[k + 1].behaviour)
+        /* the tables cost the same */
+        if (next_is_alike(k))
             continue;
         for (unsigned int t = 0; t < TABLES; t++) {
             make_table(&kinds[k], t, &table);

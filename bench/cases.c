@@ -16,6 +16,11 @@ const struct kind kinds[] = {
 };
 const unsigned int kind_count = sizeof kinds / sizeof kinds[0];
 
+bool next_is_alike(unsigned int kind)
+{
+    return kind + 1 < kind_count && kinds[kind].behaviour == kinds[kind + 1].behaviour;
+}
+
 const struct kind checksum_kinds[] = {
     {"D, zero", false, KAWSARPA_BEHAVIOUR_END_M_GTP6_D, 64, 3, false, KAWSARPA_ZERO_CHECKSUM_ALLOW, true},
     {"D, right", false, KAWSARPA_BEHAVIOUR_END_M_GTP6_D, 64, 3, false, KAWSARPA_ZERO_CHECKSUM_ALLOW, false},

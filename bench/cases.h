@@ -33,6 +33,9 @@ struct kind {
 extern const struct kind kinds[];
 extern const unsigned int kind_count;
 
+/* Whether the next kind differs in segments alone, of which it has more. */
+bool next_is_alike(unsigned int kind);
+
 /* What verifying adds: in pairs, packets with UDP checksum 0 and the same with the right one, both at entries that allow 0. */
 extern const struct kind checksum_kinds[];
 extern const unsigned int checksum_kind_count;

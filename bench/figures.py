@@ -1,7 +1,8 @@
 """The figures of one `make bench`: what `bench time` printed, and callgrind's files of `bench count`.
 
-A case is (kind, octets, records, order, load); its subjects are memcpy, bare, anchor and library. Of an offer, load "offer", the
-kind is the arrival and the records are rows; of a reader of sequence numbers, load "reader", the kind is IPv6 or IPv4."""
+A case is (kind, octets, records, order, load); its subjects are memcpy, bare, anchor and library. Of bursts, load "hot, bursts of 32" and
+so on, times are a packet's and instructions a burst's. Of an offer, load "offer", the kind is the arrival and the records are rows; of a
+reader of sequence numbers, load "reader", the kind is IPv6 or IPv4."""
 import collections
 import glob
 import os
@@ -53,12 +54,13 @@ def read_dump(name):
 def read_counts(directory):
     """Instructions by case and subject, less what calling a function that does nothing takes; and the executed addresses."""
     dumps = dict(read_dump(name) for name in glob.glob(directory + "/dump.*"))
-    calling, offering = (sum(dumps.pop(name).values()) - NOTHING for name in ("nothing", "nothing offered"))
+    calling, offering, bursting = (sum(dumps.pop(name).values()) - NOTHING for name in ("nothing", "nothing offered", "no burst"))
     counts, executed = {}, {}
     for label, addresses in dumps.items():
         *fields, subject = label.split("|")
         where = case(fields)
-        counts.setdefault(where, {})[subject] = sum(addresses.values()) - (offering if where[4] == "offer" else calling)
+        less = offering if where[4] == "offer" else bursting if "burst" in where[4] else calling
+        counts.setdefault(where, {})[subject] = sum(addresses.values()) - less
         executed[(where, subject)] = addresses
     return counts, executed
 

@@ -33,7 +33,7 @@ static double ns_per_tick(void)
     return known;
 }
 
-/* The ticks of BATCH calls, or offers, of one of the subjects of `work`. */
+/* The ticks of BATCH calls, offers, or packets in bursts, of one of the subjects of `work`. */
 typedef uint64_t batch(void *work, unsigned int subject);
 
 struct calls {
@@ -53,6 +53,27 @@ static uint64_t batch_of_calls(void *work, unsigned int s)
     for (unsigned int i = 0; i < BATCH; i++)
         subject(l->packets + l->stride * ((first + i) & (l->count - 1)), l->size, l->table, l->table_len, l->out, l->out_len);
     c->first += BATCH;
+    return ticks() - begin;
+}
+
+struct bursting {
+    const struct bursts *bursts;
+    burst *const *subjects;
+    unsigned int first;
+};
+
+static uint64_t batch_of_bursts(void *work, unsigned int s)
+{
+    struct bursting *w = work;
+    const struct bursts *b = w->bursts;
+    burst *const subject = w->subjects[s];
+    const size_t octets = b->size * b->count;
+    const unsigned int first = w->first, made = BATCH / b->count;
+    const uint64_t begin = ticks();
+    for (unsigned int i = 0; i < made; i++)
+        subject(b->packets + octets * ((first + i) & (b->bursts - 1)), octets, b->lengths, b->count, b->table, b->table_len, b->out,
+                b->out_len, b->answers, b->count);
+    w->first += made;
     return ticks() - begin;
 }
 
@@ -109,6 +130,12 @@ void measure_times(const struct load *l, call *const subjects[], unsigned int su
     take_times(batch_of_calls, &work, subject_count, ns);
 }
 
+void measure_burst_times(const struct bursts *b, burst *const subjects[], unsigned int subject_count, double ns[])
+{
+    struct bursting work = {b, subjects, 0};
+    take_times(batch_of_bursts, &work, subject_count, ns);
+}
+
 void measure_offer_times(struct offers *o, offer *const subjects[], unsigned int subject_count, double ns[])
 {
     struct offered work = {o, subjects};
@@ -123,6 +150,18 @@ void measure_instructions(const struct load *l, call *subject, const char *label
         CALLGRIND_ZERO_STATS;
         CALLGRIND_TOGGLE_COLLECT;
         made(l->packets, l->size, l->table, l->table_len, l->out, l->out_len);
+        CALLGRIND_TOGGLE_COLLECT;
+    }
+    CALLGRIND_DUMP_STATS_AT(label);
+}
+
+void measure_burst_instructions(const struct bursts *b, burst *subject, const char *label)
+{
+    burst *volatile made = subject;
+    for (int i = 0; i < 2; i++) {
+        CALLGRIND_ZERO_STATS;
+        CALLGRIND_TOGGLE_COLLECT;
+        made(b->packets, b->size * b->count, b->lengths, b->count, b->table, b->table_len, b->out, b->out_len, b->answers, b->count);
         CALLGRIND_TOGGLE_COLLECT;
     }
     CALLGRIND_DUMP_STATS_AT(label);

@@ -1,4 +1,4 @@
-/* How long a call or an offer takes, and, under callgrind, how many instructions. */
+/* How long a call, a burst or an offer takes, and, under callgrind, how many instructions. */
 #ifndef MEASURE_H
 #define MEASURE_H
 
@@ -24,6 +24,28 @@ void measure_times(const struct load *load, call *const subjects[], unsigned int
 
 /* One call with the first packet, written to a file by callgrind under this label; the call of a function that does nothing first. */
 void measure_instructions(const struct load *load, call *subject, const char *label);
+
+typedef uint64_t burst(const uint8_t *packets, size_t packets_len, const uint32_t *lengths, size_t count, const uint8_t *table,
+                       size_t table_len, uint8_t *out, size_t out_len, uint64_t *answers, size_t answers_count);
+
+/* What the bursts are given: packets of one length with nothing between them, `count` of them a burst; `bursts` bursts, taken in turn. Both
+   numbers are powers of two. */
+struct bursts {
+    const uint8_t *packets;
+    size_t size;
+    const uint32_t *lengths;
+    unsigned int count, bursts;
+    const uint8_t *table;
+    size_t table_len;
+    uint8_t *out;
+    size_t out_len;
+    uint64_t *answers;
+};
+
+/* The same of bursts: nanoseconds a packet, and the instructions of the first burst. */
+void measure_burst_times(const struct bursts *bursts, burst *const subjects[], unsigned int subject_count, double ns[]);
+
+void measure_burst_instructions(const struct bursts *bursts, burst *subject, const char *label);
 
 typedef uint64_t offer(struct kawsarpa_loss_row *rows, size_t count, uint32_t teid, uint16_t number);
 

@@ -1,7 +1,7 @@
 #!/usr/bin/env python3
 """report.py TIMES DUMPS PROGRAM: the figures of `make bench` as text.
 
-Status 1 if the anchor, without a table or at an offer, is over its limits: then it is no measure for the library.
+Status 1 if the anchor, without a table, in a burst or at an offer, is over its limits: then it is no measure for the library.
 
 What a UDP checksum adds is a difference of two counts: of packets with the right checksum and with 0, or of calls now and before there was
 one (before.txt)."""
@@ -11,10 +11,11 @@ import sys
 import figures
 
 # Instructions of D with three SIDs without a table, by octets that arrive: with UDP checksum 0, which is not verified, and with the right
-# one; and of the offer of a new number, by rows.
+# one; of the offer of a new number, by rows; and of Di at 164 octets in bursts of 32, a packet, by entries.
 UNVERIFIED_LIMITS = {164: 260, 1500: 400}
 VERIFIED_LIMITS = {164: 390, 1500: 990}
 OFFER_LIMITS = {1: 38, 16: 173, 256: 2333}
+BURST_LIMITS = {8: 600, 64: 1700}
 
 DI_164 = ("Di, 3 SIDs", 164, 8, "in order", "hot")
 DI_1500 = ("Di, 3 SIDs", 1500, 8, "in order", "hot")
@@ -39,6 +40,14 @@ ADDED = [
 SIZES = (64, 164, 1500)
 PAIRED = {kind for _, without, right in ADDED if without != right for kind in (without, right)}
 
+BURSTS = (1, 8, 32)
+
+
+def bursts(where, packets, load="hot"):
+    """The case of bursts that belongs to one of single calls."""
+    return where[:4] + (f"{load}, bursts of {packets}",)
+
+
 ARRIVALS = ("new", "repeated", "late", "row taken", "no row free")
 
 
@@ -61,12 +70,16 @@ TARGETS = [
 # And of what a checksum adds at 1,500 octets: at D, Di and E6.
 ADDED_MOST = 1.5
 
+# Of bursts of 32, by instructions a packet: where, the most of the single call's, and of the anchor's burst.
+DI_164_64 = ("Di, 3 SIDs", 164, 64, "in order", "hot")
+BURST_TARGETS = [(DI_164_64, 0.45, 1.6), (DI_164, 0.75, 1.6)]
+
 # Functions of the measuring program, which are not what is measured.
-CALLERS = ("measure_instructions", "measure_offer_instructions", "library_soundness", "anchor_soundness", "library_reader6",
-           "anchor_reader6")
+CALLERS = ("measure_instructions", "measure_burst_instructions", "measure_offer_instructions", "library_soundness", "anchor_soundness",
+           "library_reader6", "anchor_reader6")
 
 # Of these cases the instructions are shown by function.
-TAKEN_APART = [DI_164, DI_1500, E6_1500, D4, FULL, offer("new", 256), offer("no row free", 256), READER]
+TAKEN_APART = [DI_164, bursts(DI_164, 32), DI_1500, E6_1500, D4, FULL, offer("new", 256), offer("no row free", 256), READER]
 
 
 def beside(c, t):
@@ -131,6 +144,38 @@ def print_added(counts, before, times):
             print(line)
 
 
+def a_packet(counts, where, packets):
+    """Instructions a packet of bursts; of the single call, those of a call."""
+    found = {subject: n / packets for subject, n in counts[bursts(where, packets)].items()}
+    return {**found, "single": counts[where]["library"]}
+
+
+def print_bursts(counts, times):
+    print("\nBursts, with records in order: instructions and nanoseconds a packet. Hot: the same burst again and again, all of one packet;")
+    print("ring: over 4,096 packets. memcpy: each packet copied. single: the library's single call; its nanoseconds are those of as many")
+    print("calls, one after the other, as the burst has packets. l/s: the library's burst to the single call, l/a: to the anchor's burst,")
+    print("l/m: to memcpy.\n")
+    block = f"{'memcpy':>7}{'single':>8}{'anchor':>8}{'library':>8}{'l/s':>6}{'l/a':>6}{'l/m':>7} |"
+    print(f"{'':39} |{'instructions a packet':^51}|{'hot, ns a packet':^51}|{'ring, ns a packet':^51}".rstrip())
+    print(f"{'kind':16}{'octets':>7}{'records':>9}{'burst':>7} |{block * 3}"[:-2])
+    for where in times:
+        kind, octets, records, _, load = where
+        if load != "hot" or bursts(where, 1) not in times:
+            continue
+        for packets in BURSTS:
+            line = f"{kind:16}{octets:>7}{records:>9}{packets:>7} |"
+            for f in (a_packet(counts, where, packets), times[bursts(where, packets)], times[bursts(where, packets, "ring")]):
+                line += (f"{f['memcpy']:>7.1f}{f['single']:>8.1f}{f['anchor']:>8.1f}{f['library']:>8.1f}{f['library'] / f['single']:>6.2f}"
+                         f"{f['library'] / f['anchor']:>6.2f}{f['library'] / f['memcpy']:>7.1f} |")
+            print(line[:-2])
+    print("\nTargets of bursts of 32, by instructions a packet")
+    for where, of_single, of_anchor in BURST_TARGETS:
+        f = a_packet(counts, where, 32)
+        name = f"Di at 164 octets, {where[2]} entries in order, to"
+        print_target(f"{name} the single call", f["library"], f["single"], of_single)
+        print_target(f"{name} the anchor's burst", f["library"], f["anchor"], of_anchor)
+
+
 def print_soundness(counts, times):
     print("\nSoundness alone, a part of every call. full: 64 entries of all kinds, 16 rules, 16 policies.\n")
     print_heads(f"{'table of':16}{'records':>8}{'order':>10}  ")
@@ -186,9 +231,14 @@ def print_parts(counts, executed, functions):
                 print(f"{left:>7}  memcpy and memmove of the C library")
 
 
+def number(instructions):
+    """As it is counted, or, a packet of a burst, with a decimal."""
+    return f"{instructions:.1f}" if isinstance(instructions, float) else f"{instructions}"
+
+
 def print_target(name, library, anchor, most):
     of = library / anchor
-    print(f"  {name}: {library} / {anchor} = {of:.2f}, at most {most}: {'holds' if of <= most else 'does not hold'}")
+    print(f"  {name}: {number(library)} / {number(anchor)} = {of:.2f}, at most {most}: {'holds' if of <= most else 'does not hold'}")
 
 
 def print_targets(counts, before):
@@ -202,7 +252,7 @@ def print_targets(counts, before):
 
 
 def within(what, instructions, most):
-    print(f"  {what}: {instructions} instructions, at most {most}: {'holds' if instructions <= most else 'DOES NOT HOLD'}")
+    print(f"  {what}: {number(instructions)} instructions, at most {most}: {'holds' if instructions <= most else 'DOES NOT HOLD'}")
     return instructions <= most
 
 
@@ -211,6 +261,9 @@ def check_anchor(counts):
     well = [within(f"{octets} octets, checksum {said}", counts[(kind, octets, 8, "in order", "hot")]["bare"], most)
             for kind, said, limits in (("D, zero", "0", UNVERIFIED_LIMITS), ("D, right", "verified", VERIFIED_LIMITS))
             for octets, most in limits.items()]
+    print("\nThe anchor's burst of 32, Di at 164 octets, a packet")
+    well += [within(f"{entries} entries", a_packet(counts, ("Di, 3 SIDs", 164, entries, "in order", "hot"), 32)["anchor"], most)
+             for entries, most in BURST_LIMITS.items()]
     print("\nThe anchor's offer of a new number")
     well += [within(said(rows), counts[offer("new", rows)]["anchor"], most) for rows, most in OFFER_LIMITS.items()]
     return all(well)
@@ -224,6 +277,7 @@ def main():
     before = figures.read_before()
     print_calls(counts, times)
     print_added(counts, before, times)
+    print_bursts(counts, times)
     print_soundness(counts, times)
     print_offers(counts, times)
     print_packets(times)

@@ -1,12 +1,14 @@
 //! Cases through the library, by the number or for a time.
 
 use crate::bench::Bench;
+use crate::burst;
 use crate::loss::{self, Rows};
 use crate::matching::Inputs;
 use crate::mutate;
 use crate::place::Place;
 use crate::progress::{Progress, INTERVAL};
 use crate::raw;
+use second::burst::cases as bursts;
 use second::coverage::Met;
 use second::loss::histories;
 use second::matching::pairs;
@@ -20,6 +22,8 @@ use std::time::Instant;
 const SHOWN: u64 = 5;
 /// Indices that a thread takes at a time.
 const BLOCK: u64 = 64;
+/// Bursts that go with so many.
+const BURSTS: u64 = 16;
 
 pub struct Work {
     pub command: &'static str,
@@ -27,7 +31,8 @@ pub struct Work {
     pub threads: u64,
     /// Mutated cases beside each one that is generated.
     pub mutations: u64,
-    /// Whether a history of offers goes with each block of cases, and a pair with each case.
+    /// Whether bursts and a history of offers go with each block of cases, and a pair with each
+    /// case.
     pub others: bool,
     /// The first index that is left out.
     pub end: u64,
@@ -36,6 +41,7 @@ pub struct Work {
 
 pub struct Outcome {
     pub cases: u64,
+    pub bursts: u64,
     pub histories: u64,
     pub pairs: u64,
     pub differences: u64,
@@ -58,6 +64,7 @@ fn difference(place: Place, case: &Case, found: Answer, why: &str) -> String {
 #[derive(Default)]
 struct Done {
     cases: AtomicU64,
+    bursts: AtomicU64,
     histories: AtomicU64,
     pairs: AtomicU64,
 }
@@ -77,6 +84,7 @@ pub fn judge(bench: &mut Bench, place: Place, case: &Case) -> (Answer, Vec<u8>, 
 
 fn work(work: &Work, next: &AtomicU64, done: &Done, differences: Sender<String>) -> Met {
     let mut bench = Bench::new();
+    let mut burst_bench = burst::Bench::new();
     let mut rows = Rows::new();
     let mut inputs = Inputs::new();
     let mut met = Met::new();
@@ -118,6 +126,12 @@ fn work(work: &Work, next: &AtomicU64, done: &Done, differences: Sender<String>)
             }
         }
         if work.others {
+            let of_block = bursts::bursts(seed, first / BLOCK * BURSTS).take(BURSTS as usize);
+            for (index, burst) in of_block {
+                let judged = burst_bench.judge(Place::Burst { seed, index }, &burst);
+                done.bursts.fetch_add(1, Ordering::Relaxed);
+                judged.unwrap_or_else(send);
+            }
             let index = first / BLOCK;
             let history = histories::history(seed, index);
             let judged = loss::one(&mut rows, Place::History { seed, index }, &history);
@@ -173,6 +187,7 @@ impl Work {
         });
         Outcome {
             cases: done.cases.into_inner(),
+            bursts: done.bursts.into_inner(),
             histories: done.histories.into_inner(),
             pairs: done.pairs.into_inner(),
             differences,

@@ -8,7 +8,7 @@ const STATUS: &str =
     "exit status: 0 all well, 1 a difference, a gap or a call that crashes, 2 wrong usage\n";
 
 /// Each command with its options and its help.
-pub const COMMANDS: [(&str, &[&str], &str); 11] = [
+pub const COMMANDS: [(&str, &[&str], &str); 13] = [
     (
         "cases",
         &["--seed", "--cases", "--threads", "--tables"],
@@ -25,6 +25,26 @@ pub const COMMANDS: [(&str, &[&str], &str); 11] = [
         &["--seed", "--index", "--mutation"],
         "  boundary case --seed N --index I [--mutation K]
       make one call and print both answers, in words and octets
+",
+    ),
+    (
+        "burst",
+        &["--seed", "--packets", "--first", "--tables"],
+        "  boundary burst --seed N --packets M [--first I] [--tables J]
+      make bursts, until M packets are answered, from burst I on (0 if not given), and
+      compare every octet of the output and every answer place; each packet goes by
+      a call of its own too; print what the bursts met, and how often the library
+      gave each answer number; a gap is a failure in the first J of three tables
+      (all if not given): what they met, counts of lengths, numbers
+",
+    ),
+    (
+        "burst-trips",
+        &["--seed", "--cases", "--first"],
+        "  boundary burst-trips --seed N --cases M [--first I]
+      make the bursts of M whole trips of several packets each, from trip I on (0 if
+      not given), and hold them against the trips of the packets one at a time, by
+      the second program and by the library; print what the packets met
 ",
     ),
     (
@@ -90,18 +110,18 @@ pub const COMMANDS: [(&str, &[&str], &str); 11] = [
         &["--seed", "--per-kind"],
         "  boundary stack [--seed N] [--per-kind K]
       measure the stack that each export uses over K cases (300 if not given) of
-      each kind, in which every answer number occurs, that of offers and readers
-      over 20 times as many histories and packets, and that of the calls that tell
-      whether tables fit over 80 times as many pairs
+      each kind, in which every answer number occurs, that of bursts, offers and
+      readers over 20 times as many bursts, histories and packets, and that of the
+      calls that tell whether tables fit over 80 times as many pairs
 ",
     ),
     (
         "fuzz",
         &["--seconds", "--seed", "--threads"],
         "  boundary fuzz --seconds S [--seed N] [--threads T]
-      make calls for S seconds, of cases and of mutated cases, with histories of
-      offers and pairs of tables among them; without a seed, one is taken from the
-      clock
+      make calls for S seconds, of cases and of mutated cases, with bursts,
+      histories of offers and pairs of tables among them; without a seed, one is
+      taken from the clock
 ",
     ),
 ];

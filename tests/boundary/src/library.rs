@@ -8,6 +8,18 @@ use std::arch::asm;
 
 type Function = unsafe extern "C" fn(*const u8, usize, *const u8, usize, *mut u8, usize) -> u64;
 type Reader = unsafe extern "C" fn(*const u8, usize) -> u64;
+type BurstFunction = unsafe extern "C" fn(
+    *const u8,
+    usize,
+    *const u32,
+    usize,
+    *const u8,
+    usize,
+    *mut u8,
+    usize,
+    *mut u64,
+    usize,
+) -> u64;
 
 /// `include/kawsarpa.h`.
 mod header {
@@ -35,6 +47,30 @@ mod header {
             table_len: usize,
             out: *mut u8,
             out_len: usize,
+        ) -> u64;
+        pub fn kawsarpa_burst_ipv6(
+            packets: *const u8,
+            packets_len: usize,
+            lengths: *const u32,
+            count: usize,
+            table: *const u8,
+            table_len: usize,
+            out: *mut u8,
+            out_len: usize,
+            answers: *mut u64,
+            answers_count: usize,
+        ) -> u64;
+        pub fn kawsarpa_burst_ipv4(
+            packets: *const u8,
+            packets_len: usize,
+            lengths: *const u32,
+            count: usize,
+            table: *const u8,
+            table_len: usize,
+            out: *mut u8,
+            out_len: usize,
+            answers: *mut u64,
+            answers_count: usize,
         ) -> u64;
         pub fn kawsarpa_table_fault(table: *const u8, table_len: usize) -> u64;
         pub fn kawsarpa_loss_offer(rows: *mut u8, count: usize, teid: u32, number: u16) -> u64;
@@ -119,6 +155,95 @@ impl Export {
         // SAFETY: as in `call`.
         unsafe { call_on(stack, self.function() as *const (), arguments) }
     }
+}
+
+fn burst_function(call: Call) -> BurstFunction {
+    match call {
+        Call::Ipv6 => header::kawsarpa_burst_ipv6,
+        Call::Ipv4 => header::kawsarpa_burst_ipv4,
+    }
+}
+
+pub fn burst_name(call: Call) -> &'static str {
+    match call {
+        Call::Ipv6 => "kawsarpa_burst_ipv6",
+        Call::Ipv4 => "kawsarpa_burst_ipv4",
+    }
+}
+
+/// One call for all packets.
+pub fn burst(
+    call: Call,
+    packets: &[u8],
+    lengths: &[u32],
+    table: &[u8],
+    out: &mut [u8],
+    answers: &mut [u64],
+) -> u64 {
+    // SAFETY: slices are what the header asks for, output and answers apart from the others
+    // and from each other.
+    unsafe {
+        burst_function(call)(
+            packets.as_ptr(),
+            packets.len(),
+            lengths.as_ptr(),
+            lengths.len(),
+            table.as_ptr(),
+            table.len(),
+            out.as_mut_ptr(),
+            out.len(),
+            answers.as_mut_ptr(),
+            answers.len(),
+        )
+    }
+}
+
+/// Octets of the arguments that a burst has on the stack, in its caller's frame.
+pub const BURST_STACKED: usize = 32;
+
+/// The same with the stack pointer at the end of these pages, but for those arguments.
+pub fn burst_on(
+    stack: &mut Pages,
+    call: Call,
+    packets: &[u8],
+    lengths: &[u32],
+    table: &[u8],
+    out: &mut [u8],
+    answers: &mut [u64],
+) -> u64 {
+    let arguments = [
+        packets.as_ptr() as u64,
+        packets.len() as u64,
+        lengths.as_ptr() as u64,
+        lengths.len() as u64,
+        table.as_ptr() as u64,
+        table.len() as u64,
+    ];
+    let stacked = [
+        out.as_mut_ptr() as u64,
+        out.len() as u64,
+        answers.as_mut_ptr() as u64,
+        answers.len() as u64,
+    ];
+    let place = stack.octets().last_chunk_mut().expect("room for them");
+    *place = stacked_octets(stacked);
+    // SAFETY: as in `burst`; the other arguments lie where the ABI has them.
+    unsafe {
+        call_below(
+            stack,
+            BURST_STACKED,
+            burst_function(call) as *const (),
+            arguments,
+        )
+    }
+}
+
+fn stacked_octets(arguments: [u64; 4]) -> [u8; BURST_STACKED] {
+    let mut octets = [0; BURST_STACKED];
+    for (place, argument) in octets.chunks_exact_mut(8).zip(arguments) {
+        place.copy_from_slice(&argument.to_le_bytes());
+    }
+    octets
 }
 
 /// The fault of a table.
@@ -235,11 +360,26 @@ pub fn sequence_on(stack: &mut Pages, call: Call, packet: &[u8]) -> u64 {
 /// # Safety
 /// The arguments, in the order of the ABI's registers, are what the function is owed.
 unsafe fn call_on(stack: &mut Pages, function: *const (), arguments: [u64; 6]) -> u64 {
-    let top = stack.octets().as_mut_ptr_range().end;
+    // SAFETY: as of this function.
+    unsafe { call_below(stack, 0, function, arguments) }
+}
+
+/// The same below so many octets at their end, a multiple of 16.
+///
+/// # Safety
+/// As of `call_on`, and further arguments stand in those octets.
+unsafe fn call_below(
+    stack: &mut Pages,
+    stacked: usize,
+    function: *const (),
+    arguments: [u64; 6],
+) -> u64 {
+    let used = stack.size() - stacked;
+    let top = stack.octets()[..used].as_mut_ptr_range().end;
     let answer: u64;
-    // SAFETY: the pages end at a multiple of 16 as the ABI asks, r12 keeps the old
-    // stack pointer because a callee preserves it, and a call that needs more stack
-    // than they have meets the pages before them.
+    // SAFETY: the stack pointer is a multiple of 16 as the ABI asks, r12 keeps the old
+    // one because a callee preserves it, and a call that needs more stack than the pages
+    // have meets those before them.
     unsafe {
         asm!(
             "xchg rsp, r12",

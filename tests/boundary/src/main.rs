@@ -3,6 +3,7 @@
 #![deny(unsafe_code)]
 
 mod bench;
+mod burst;
 mod cases;
 mod faults;
 mod help;
@@ -94,6 +95,8 @@ fn run(words: &[String], out: &mut dyn Write) -> Result<(), Failure> {
     match name {
         "cases" => run_cases(options, out),
         "case" => run_case(options, out),
+        "burst" => run_burst(options, out),
+        "burst-trips" => run_burst_trips(options, out),
         "faults" => run_faults(options, out),
         "loss" => run_loss(options, out),
         "sequence" => run_sequence(options, out),
@@ -148,10 +151,10 @@ fn run_fuzz(options: &Options, out: &mut dyn Write) -> Result<(), Failure> {
         deadline: Some(deadline),
     }
     .run();
-    let (histories, pairs) = (outcome.histories, outcome.pairs);
+    let (bursts, histories, pairs) = (outcome.bursts, outcome.histories, outcome.pairs);
     writeln!(out, "{}", outcome.met.numbers)?;
     report(
-        &format!("seed {seed}, {histories} histories of offers, {pairs} pairs"),
+        &format!("seed {seed}, {bursts} bursts, {histories} histories of offers, {pairs} pairs"),
         &outcome,
         out,
     )
@@ -205,6 +208,45 @@ fn run_case(options: &Options, out: &mut dyn Write) -> Result<(), Failure> {
         Some(why) => Err(Failure::Check(why)),
         None => Ok(writeln!(out, "no difference")?),
     }
+}
+
+fn run_burst(options: &Options, out: &mut dyn Write) -> Result<(), Failure> {
+    let seed = options.get("--seed")?;
+    let packets = count(options, "--packets", None)?;
+    let first = options.get_or("--first", 0);
+    let tables = options.get_or("--tables", burst::Met::TABLES);
+    let met = burst::run(seed, first, packets).map_err(Failure::Check)?;
+    writeln!(out, "{met}")?;
+    // One burst alone is looked at again, and does not meet everything.
+    if packets > 1 {
+        met.judge_first(tables).map_err(Failure::Check)?;
+    }
+    writeln!(
+        out,
+        "seed {seed}: {} packets in {} bursts, each octet and each answer place as it should be",
+        met.packets(),
+        met.bursts()
+    )?;
+    Ok(())
+}
+
+fn run_burst_trips(options: &Options, out: &mut dyn Write) -> Result<(), Failure> {
+    let seed = options.get("--seed")?;
+    let cases = count(options, "--cases", None)?;
+    let first = options.get_or("--first", 0);
+    let indices = first..first.saturating_add(cases);
+    let tally = burst::run_trips(seed, indices).map_err(Failure::Check)?;
+    writeln!(out, "{tally}")?;
+    // One trip alone is looked at again.
+    if cases > 1 {
+        tally.judge().map_err(Failure::Check)?;
+    }
+    writeln!(
+        out,
+        "seed {seed}: {cases} trips of bursts, {} packets as on trips alone",
+        tally.cases()
+    )?;
+    Ok(())
 }
 
 fn run_faults(options: &Options, out: &mut dyn Write) -> Result<(), Failure> {
@@ -348,16 +390,19 @@ fn run_stack(options: &Options, out: &mut dyn Write) -> Result<(), Failure> {
     offers.judge().map_err(Failure::Check)?;
     let packets = second::sequence::coverage::collect(seed, others);
     packets.judge().map_err(Failure::Check)?;
+    let met = second::burst::coverage::collect(seed, others).map_err(Failure::Check)?;
+    met.judge().map_err(Failure::Check)?;
     let of_exports = Export::ALL.map(|export| stack::of_export(export, seed, &cases));
+    let of_bursts = [Call::Ipv6, Call::Ipv4].map(|call| stack::of_burst(call, seed, others));
     let of_readers = [Call::Ipv6, Call::Ipv4].map(|call| stack::of_reader(call, seed, others));
     let pairs = others.saturating_mul(4);
     let met = second::matching::coverage::collect(seed, pairs).map_err(Failure::Check)?;
     met.judge().map_err(Failure::Check)?;
     let of_matches = Ask::ALL.map(|ask| stack::of_match(ask, seed, pairs));
-    let all = of_exports
+    let deepest: Vec<_> = of_exports
         .into_iter()
-        .chain([stack::of_offers(seed, others)]);
-    let deepest: Vec<_> = all
+        .chain(of_bursts)
+        .chain([stack::of_offers(seed, others)])
         .chain(of_readers)
         .chain(of_matches)
         .collect::<Result<_, _>>()

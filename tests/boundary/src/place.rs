@@ -14,6 +14,16 @@ pub enum Place {
         seed: u64,
         index: u64,
     },
+    /// Packets for one call.
+    Burst {
+        seed: u64,
+        index: u64,
+    },
+    /// A trip of bursts.
+    BurstTrip {
+        seed: u64,
+        index: u64,
+    },
     /// A table that is asked for its fault.
     Table {
         seed: u64,
@@ -62,6 +72,8 @@ impl fmt::Display for Place {
                 mutation,
             } => write!(f, "seed {seed} index {index} mutation {mutation}"),
             Place::Trip { seed, index } => write!(f, "seed {seed} trip {index}"),
+            Place::Burst { seed, index } => write!(f, "seed {seed} burst {index}"),
+            Place::BurstTrip { seed, index } => write!(f, "seed {seed} burst trip {index}"),
             Place::Table { seed, index } => write!(f, "seed {seed} table {index}"),
             Place::History { seed, index } => write!(f, "seed {seed} history {index}"),
             Place::Reading { seed, index } => write!(f, "seed {seed} packet {index}"),
@@ -98,6 +110,18 @@ impl fmt::Display for Command {
             }
             Place::Trip { seed, index } => {
                 write!(f, "boundary trips --seed {seed} --first {index} --cases 1")
+            }
+            Place::Burst { seed, index } => {
+                write!(
+                    f,
+                    "boundary burst --seed {seed} --first {index} --packets 1"
+                )
+            }
+            Place::BurstTrip { seed, index } => {
+                write!(
+                    f,
+                    "boundary burst-trips --seed {seed} --first {index} --cases 1"
+                )
             }
             Place::Table { seed, index } => {
                 write!(f, "boundary faults --seed {seed} --first {index} --cases 1")

@@ -118,6 +118,7 @@ pub enum Side {
 pub struct Input {
     view: *const u8,
     writable: *mut u8,
+    size: usize,
     at: usize,
     length: usize,
 }
@@ -128,25 +129,30 @@ unsafe impl Send for Input {}
 
 impl Input {
     pub fn new() -> Self {
-        let start = reserve(MOST);
+        Input::of_size(MOST)
+    }
+
+    pub fn of_size(size: usize) -> Self {
+        let start = reserve(size);
         // SAFETY: the view lies where `reserve` made room and nothing else does;
         // the other view is a new mapping; both keep the file after `close`.
         let (view, writable) = unsafe {
             let file = system::memfd_create(c"input".as_ptr(), 0);
             assert!(file >= 0, "memfd_create failed");
-            let long = MOST as c_long;
+            let long = size as c_long;
             assert_eq!(system::ftruncate(file, long), 0, "ftruncate failed");
             let fixed = system::MAP_SHARED | system::MAP_FIXED;
-            let view = system::mmap(start, MOST, system::PROT_READ, fixed, file, 0);
+            let view = system::mmap(start, size, system::PROT_READ, fixed, file, 0);
             let both = system::PROT_READ | system::PROT_WRITE;
             let null = std::ptr::null_mut();
-            let writable = system::mmap(null, MOST, both, system::MAP_SHARED, file, 0);
+            let writable = system::mmap(null, size, both, system::MAP_SHARED, file, 0);
             system::close(file);
             (mapped(view), mapped(writable))
         };
         Input {
             view,
             writable,
+            size,
             at: 0,
             length: 0,
         }
@@ -154,13 +160,13 @@ impl Input {
 
     pub fn set(&mut self, octets: &[u8], side: Side) {
         self.length = octets.len();
-        let free = MOST.checked_sub(self.length).expect("octets that fit");
+        let free = self.size.checked_sub(self.length).expect("octets that fit");
         self.at = if side == Side::End { free } else { 0 };
         // SAFETY: `at` and the length are within the view, and no slice of it is
         // lent while the value is borrowed for a change.
         unsafe {
             std::ptr::copy_nonoverlapping(octets.as_ptr(), self.writable.add(self.at), self.length);
-            tell(Memory::Inaccessible, self.view, MOST);
+            tell(Memory::Inaccessible, self.view, self.size);
         }
         tell(Memory::Defined, self.octets().as_ptr(), self.length);
     }
@@ -223,6 +229,44 @@ pub fn lend_rows(before: &[u8], rows: &[u8], behind: &[u8]) {
     for octets in [before, past, behind] {
         tell(Memory::Inaccessible, octets.as_ptr(), octets.len());
     }
+}
+
+/// Before a burst: for valgrind the octets around output and answer places are out of
+/// bounds, and what lies between them is undefined.
+pub fn lend_both(around: [&[u8]; 4], written: [&[u8]; 2]) {
+    for octets in around {
+        tell(Memory::Inaccessible, octets.as_ptr(), octets.len());
+    }
+    for octets in written {
+        tell(Memory::Undefined, octets.as_ptr(), octets.len());
+    }
+}
+
+/// After a burst: so many octets of each have to be defined; then all may be looked at.
+pub fn take_back_both(around: [&[u8]; 4], written: [(&[u8], usize); 2]) {
+    for (octets, count) in written {
+        tell(Memory::Checked, octets.as_ptr(), count.min(octets.len()));
+        tell(Memory::Defined, octets.as_ptr(), octets.len());
+    }
+    for octets in around {
+        tell(Memory::Defined, octets.as_ptr(), octets.len());
+    }
+}
+
+/// Whole numbers of 32 bits at an address for them.
+pub fn numbers(octets: &[u8]) -> &[u32] {
+    // SAFETY: any octets are numbers.
+    let (before, numbers, behind) = unsafe { octets.align_to() };
+    assert!(before.is_empty() && behind.is_empty());
+    numbers
+}
+
+/// Whole numbers of 64 bits at an address for them.
+pub fn places(octets: &mut [u8]) -> &mut [u64] {
+    // SAFETY: any octets are numbers, and any numbers octets.
+    let (before, places, behind) = unsafe { octets.align_to_mut() };
+    assert!(before.is_empty() && behind.is_empty());
+    places
 }
 
 /// After an offer: what is in use has to be defined; then all may be looked at.

@@ -5,6 +5,7 @@ use crate::bench::exports;
 use crate::library::{self, Export};
 use crate::place::Place;
 use crate::raw::{self, Pages};
+use second::burst::cases as bursts;
 use second::loss::{histories, ROW_LENGTH};
 use second::matching::pairs::{self, Ask};
 use second::sequence::cases as readings;
@@ -42,6 +43,24 @@ pub fn of_export(export: Export, seed: u64, cases: &[(u64, Case)]) -> Result<Dee
         let at = || format!("{place}: {}", case.answer);
         gauge.measure(place, 1, at, |stack| {
             case.check_by(|_, packet, table, out| export.call_on(stack, packet, table, out))
+        })?;
+    }
+    Ok(gauge.deepest)
+}
+
+/// The same of a call for bursts, in the first bursts of a seed. What it has of its arguments on
+/// the stack is its caller's.
+pub fn of_burst(call: Call, seed: u64, count: u64) -> Result<Deepest, String> {
+    let mut gauge = Gauge::new(library::burst_name(call));
+    gauge.stacked = library::BURST_STACKED;
+    let first = bursts::bursts(seed, 0).take_while(|&(index, _)| index < count);
+    for (index, burst) in first.filter(|(_, burst)| burst.call == call) {
+        let place = Place::Burst { seed, index };
+        let at = || format!("{place}: {}", burst.answer);
+        gauge.measure(place, 1, at, |stack| {
+            burst.check_by(|call, packets, lengths, table, out, answers| {
+                library::burst_on(stack, call, packets, lengths, table, out, answers)
+            })
         })?;
     }
     Ok(gauge.deepest)
@@ -103,6 +122,8 @@ pub fn of_match(ask: Ask, seed: u64, count: u64) -> Result<Deepest, String> {
 
 struct Gauge {
     stack: Pages,
+    /// Octets at its end that are the caller's.
+    stacked: usize,
     deepest: Deepest,
 }
 
@@ -110,6 +131,7 @@ impl Gauge {
     fn new(name: &'static str) -> Self {
         Gauge {
             stack: Pages::new(SIZE),
+            stacked: 0,
             deepest: Deepest {
                 name,
                 octets: 0,
@@ -127,7 +149,11 @@ impl Gauge {
         at: impl Fn() -> String,
         mut run: impl FnMut(&mut Pages) -> Result<(), String>,
     ) -> Result<(), String> {
-        let Gauge { stack, deepest } = self;
+        let Gauge {
+            stack,
+            stacked,
+            deepest,
+        } = self;
         raw::runs(place);
         deepest.calls += calls;
         for paint in PAINTS {
@@ -135,8 +161,9 @@ impl Gauge {
             run(stack).map_err(|why| format!("{place}, {}: {why}", deepest.name))?;
             let octets = stack.octets().iter();
             let untouched = octets.take_while(|&&octet| octet == paint).count();
-            if SIZE - untouched > deepest.octets {
-                deepest.octets = SIZE - untouched;
+            let octets = SIZE - *stacked - untouched;
+            if octets > deepest.octets {
+                deepest.octets = octets;
                 deepest.at = at();
             }
         }

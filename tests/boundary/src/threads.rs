@@ -6,6 +6,7 @@ use crate::mutate;
 use crate::place::Place;
 use crate::progress::Progress;
 use crate::raw::{self, Input, Pages, Side, MOST};
+use second::burst::cases::Burst;
 use second::matching::pairs::{self, Ask};
 use second::{generate, sequence, Case};
 use std::ops::Range;
@@ -29,6 +30,7 @@ pub struct Tally {
 pub fn run(seed: u64, indices: Range<u64>, threads: u64) -> Result<Tally, String> {
     let mut table = Input::new();
     let mut packets: Vec<Input> = (0..PACKETS).map(|_| Input::new()).collect();
+    let (mut burst_packets, mut burst_lengths) = (Input::new(), Input::new());
     let mut outputs: Vec<Pages> = (0..threads).map(|_| Pages::new(MOST)).collect();
     let mut progress = Progress::new();
     let mut tally = Tally::default();
@@ -43,6 +45,9 @@ pub fn run(seed: u64, indices: Range<u64>, threads: u64) -> Result<Tally, String
         for (packet, case) in packets.iter_mut().zip(&cases) {
             packet.set(&case.packet, Side::End);
         }
+        let burst = burst_of(&cases);
+        burst_packets.set(&burst.packets, Side::End);
+        burst_lengths.set(&octets_of(&burst.lengths), Side::End);
         let place = Place::Shared { seed, index };
         let numbers = cases
             .iter()
@@ -56,6 +61,9 @@ pub fn run(seed: u64, indices: Range<u64>, threads: u64) -> Result<Tally, String
             numbers: numbers.collect(),
             mismatches: mismatches.collect(),
             packets: &packets,
+            burst: &burst,
+            burst_packets: &burst_packets,
+            burst_lengths: &burst_lengths,
             table: &table,
             start: Barrier::new(outputs.len()),
             working: AtomicU64::new(threads),
@@ -94,6 +102,17 @@ fn mismatches(table: &[u8], packet: &[u8], ask_for: fn(Ask, &[u8], u64, &[u8]) -
     })
 }
 
+/// All packets in one burst, with room for what they are together.
+fn burst_of(cases: &[Case]) -> Burst {
+    let packets: Vec<&[u8]> = cases.iter().map(|case| &case.packet[..]).collect();
+    let room = packets.iter().map(|packet| packet.len()).sum();
+    Burst::of_packets(cases[0].call, &packets, &cases[0].table, room)
+}
+
+fn octets_of(lengths: &[u32]) -> Vec<u8> {
+    lengths.iter().flat_map(|n| n.to_ne_bytes()).collect()
+}
+
 struct Shared<'a> {
     place: Place,
     cases: &'a [Case],
@@ -101,6 +120,9 @@ struct Shared<'a> {
     numbers: Vec<u64>,
     mismatches: Vec<[u64; 3]>,
     packets: &'a [Input],
+    burst: &'a Burst,
+    burst_packets: &'a Input,
+    burst_lengths: &'a Input,
     table: &'a Input,
     start: Barrier,
     /// Threads that have rounds to do.
@@ -131,8 +153,32 @@ impl Shared<'_> {
         Ok(tally)
     }
 
-    /// A call with each packet. Each thread begins at another, so that they meet
-    /// on the same packet and on different ones.
+    /// All packets in one call.
+    fn burst(&self, output: &mut Pages, tally: &mut Tally) -> Result<(), String> {
+        let mut others = 0;
+        let checked = self.burst.check_by(|call, _, _, _, out, answers| {
+            let own = &mut output.octets()[MOST - out.len()..];
+            own.copy_from_slice(out);
+            let (packets, table) = (self.burst_packets.octets(), self.table.octets());
+            let lengths = raw::numbers(self.burst_lengths.octets());
+            others += self.inside.fetch_add(1, Ordering::Relaxed);
+            let packed = library::burst(call, packets, lengths, table, own, answers);
+            others += self.inside.fetch_sub(1, Ordering::Relaxed) - 1;
+            out.copy_from_slice(own);
+            packed
+        });
+        checked.map_err(|why| {
+            let (place, name) = (self.place, library::burst_name(self.burst.call));
+            let again = place.command();
+            format!("{place}, {name}: {why}\n  run again: {again}")
+        })?;
+        tally.calls += 1;
+        tally.overlapping += u64::from(others > 0);
+        Ok(())
+    }
+
+    /// A call with each packet, and one with all. Each thread begins at another, so that
+    /// they meet on the same packet and on different ones.
     fn round(&self, from: usize, output: &mut Pages, tally: &mut Tally) -> Result<(), String> {
         for step in from..from + self.cases.len() {
             let number = step % self.cases.len();
@@ -172,6 +218,6 @@ impl Shared<'_> {
             tally.calls += 1;
             tally.overlapping += u64::from(others > 0);
         }
-        Ok(())
+        self.burst(output, tally)
     }
 }

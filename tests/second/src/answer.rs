@@ -12,7 +12,7 @@ const SR_UPPER_LAYER_HEADER_ERROR: u8 = 4;
 const SEGMENTS_LEFT_OFFSET: u16 = 43;
 
 /// The answer numbers in words, those of `kawsarpa.h`.
-const NAMES: [&str; 19] = [
+const NAMES: [&str; 20] = [
     "sent",
     "table not sound",
     "malformed packet",
@@ -32,6 +32,7 @@ const NAMES: [&str; 19] = [
     "no room",
     "bad Echo Request",
     "bad UDP checksum",
+    "bad burst",
 ];
 
 /// One answer: number, ICMP type, code and pointer, length.
@@ -88,9 +89,11 @@ impl fmt::Display for Answer {
     }
 }
 
-/// Why a packet is refused; the order is that in which the rows are tested.
+/// Why a packet is refused, or a burst; the order is that in which the rows are tested.
 #[derive(Clone, Copy, Debug, PartialEq, Eq)]
 pub enum Refusal {
+    /// 19: a burst as a whole: too many lengths, another sum, too few places for answers.
+    Burst,
     /// 1: table not sound.
     UnsoundTable,
     /// 2: too short, wrong version, or the length field disagrees.
@@ -152,6 +155,7 @@ impl Refusal {
             Refusal::NoRoom => 16,
             Refusal::EchoRequest => 17,
             Refusal::UdpChecksum => 18,
+            Refusal::Burst => 19,
         };
         let (icmp_type, icmp_code, icmp_pointer) = match self {
             Refusal::HopLimit => (TIME_EXCEEDED, 0, 0),
@@ -186,9 +190,12 @@ mod tests {
         };
         assert_eq!(answer.pack(), 0x08_2804_0408);
         assert_eq!(Answer::unpack(answer.pack()), answer);
-        let sent = Answer::sent(65_575);
-        assert_eq!(sent.pack(), 65_575 << 40);
-        assert_eq!(Answer::unpack(sent.pack()), sent);
+        // The most that a packet has, and that a burst sends.
+        for length in [65_575, 32 * 65_575] {
+            let sent = Answer::sent(length);
+            assert_eq!(sent.pack(), (length as u64) << 40);
+            assert_eq!(Answer::unpack(sent.pack()), sent);
+        }
     }
 
     #[test]
@@ -203,6 +210,7 @@ mod tests {
             Refusal::UdpChecksum.answer().to_string(),
             "18 (bad UDP checksum)"
         );
+        assert_eq!(Refusal::Burst.answer().to_string(), "19 (bad burst)");
         assert_eq!(
             Refusal::HopLimit.answer().to_string(),
             "6 (hop limit exceeded), ICMP 3 0 0"
@@ -226,5 +234,6 @@ mod tests {
         assert_eq!(Refusal::NoRoom.answer().pack(), 16);
         assert_eq!(Refusal::EchoRequest.answer().pack(), 17);
         assert_eq!(Refusal::UdpChecksum.answer().pack(), 18);
+        assert_eq!(Refusal::Burst.answer().pack(), 19);
     }
 }

@@ -2,6 +2,7 @@
 //! RFC 9433, the layout of the table octets and the C interface.
 //!
 //! - [`translate`]: the two calls, [`translate_ipv6`] and [`translate_ipv4`];
+//! - [`burst`]: up to 32 packets a call;
 //! - [`table`]: the table octets and what makes a table sound;
 //! - [`fault`]: which condition a table breaks first;
 //! - [`matching`]: whether the tables of a trip fit;
@@ -15,6 +16,7 @@
 
 pub mod answer;
 pub mod args;
+pub mod burst;
 pub mod command;
 pub mod coverage;
 pub mod edges;

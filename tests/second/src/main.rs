@@ -1,11 +1,12 @@
 //! The command `second`.
 
+use second::burst::cases as bursts;
 use second::command::{self, Failure, Options};
 use second::loss::histories;
 use second::matching::{self, pairs};
 use second::sequence::cases as readings;
 use second::tally::Tally;
-use second::{coverage, generate, loss, program, sequence, trips, vectors, worked, Kind};
+use second::{burst, coverage, generate, loss, program, sequence, trips, vectors, worked, Kind};
 use std::io::{self, Write};
 use std::process::ExitCode;
 
@@ -22,6 +23,14 @@ usage:
       packet-hex table-hex out-hex; '-' is an empty field, '#' begins a comment
   second show --seed N --index I [--packet P]
       print case I of a seed, or packet P for its table, as a line of the same form
+  second burst-coverage --seed N --cases M
+      generate M bursts, print what they met, how many had each count of lengths, and
+      how often each answer number came out for their packets at each kind
+  second burst-vectors --seed N --cases M [--first I] [--max-octets L]
+      print those of M bursts from I on (0 if not given) whose packets have at most
+      L octets together (20000 if not given), a line each: burst call answer lengths
+      packets-hex table-hex room places answers out-hex; lengths and answers have a
+      comma between two
   second loss-coverage --seed N --cases M
       generate M histories of offers, print what the offers met
   second loss-vectors --seed N --cases M [--first I]
@@ -44,15 +53,19 @@ usage:
   second check
       read lines of any of these forms from standard input and run them here
   second worked
-      run the worked packets of docs/RULES.md and of orders 1, 2 and 13
+      run the worked packets of docs/RULES.md and of orders 1, 2, 3 and 13
   second program-input --seed N --per-kind K [--max-worked L]
   second program-output --seed N --per-kind K [--max-worked L]
       what the library's program `worked` reads, and what it should print: the
       worked packets that are calls (of at most L octets, if given), those for the
-      readers, then K cases for each kind; case D N:I:P is that of
-      second show --seed N --index I --packet P
+      readers, the worked bursts, then K cases for each kind, and short bursts, a
+      tenth as many; case D N:I:P is that of second show --seed N --index I
+      --packet P, burst N:I that of second burst-vectors --seed N --first I --cases 1
   second trips --seed N --cases M
       run M whole trips, each followed by two second trips
+  second burst-trips --seed N --cases M
+      run M whole trips of several packets each, with a burst at each stop, and hold
+      them against the trips of the packets one at a time
   second --help
 
 exit status: 0 all well, 1 a check failed or a gap was found, 2 wrong usage
@@ -117,6 +130,39 @@ fn run(words: &[String], out: &mut dyn Write) -> Result<(), Failure> {
                 case.notes.join("; ")
             )?;
             writeln!(out, "{}", vectors::line(&case))?;
+        }
+        "burst-coverage" => {
+            let options = Options::parse(rest, &["--seed", "--cases"])?;
+            let (seed, cases) = (options.get("--seed")?, options.get("--cases")?);
+            let met = burst::coverage::collect(seed, cases).map_err(Failure::Check)?;
+            writeln!(out, "{met}")?;
+            met.judge().map_err(Failure::Check)?;
+            let packets = met.packets();
+            writeln!(
+                out,
+                "seed {seed}: {packets} packets in {cases} bursts, no gap"
+            )?;
+        }
+        "burst-vectors" => {
+            let known = ["--seed", "--cases", "--first", "--max-octets"];
+            let options = Options::parse(rest, &known)?;
+            let (seed, cases) = (options.get("--seed")?, options.get("--cases")?);
+            let first = options.get_or("--first", 0);
+            let max_octets = options.get_or("--max-octets", 20_000);
+            writeln!(
+                out,
+                "# seed {seed}, {cases} bursts from {first} on, those of at most {max_octets} octets"
+            )?;
+            writeln!(
+                out,
+                "# burst call answer lengths packets-hex table-hex room places answers out-hex"
+            )?;
+            let end = first.saturating_add(cases);
+            for (_, burst) in bursts::bursts(seed, first).take_while(|&(index, _)| index < end) {
+                if burst.packets.len() as u64 <= max_octets {
+                    writeln!(out, "{}", bursts::line(&burst))?;
+                }
+            }
         }
         "loss-coverage" => {
             let options = Options::parse(rest, &["--seed", "--cases"])?;
@@ -252,6 +298,17 @@ fn run(words: &[String], out: &mut dyn Write) -> Result<(), Failure> {
                 "{tally}\nseed {seed}: {cases} trips and their second trips as they should be"
             )?;
         }
+        "burst-trips" => {
+            let options = Options::parse(rest, &["--seed", "--cases"])?;
+            let (seed, cases) = (options.get("--seed")?, options.get("--cases")?);
+            let tally = burst::trips::run(seed, cases).map_err(Failure::Check)?;
+            say_tally(out, &tally)?;
+            let packets = tally.cases();
+            writeln!(
+                out,
+                "seed {seed}: {cases} trips of bursts, {packets} packets as on trips alone"
+            )?;
+        }
         other => return Err(Failure::Usage(format!("unknown command {other}"))),
     }
     Ok(())
@@ -265,6 +322,7 @@ fn say_tally(out: &mut dyn Write, tally: &Tally) -> Result<(), Failure> {
 /// What a line is about, and whether it holds here. An error for what is no line.
 fn check_line(line: &str) -> Result<(&'static str, Result<(), String>), String> {
     match line.split(' ').next() {
+        Some("burst") => Ok(("burst", bursts::parse(line)?.check())),
         Some("loss") => Ok(("loss", histories::parse(line)?.check())),
         Some("sequence") => Ok(("sequence", readings::parse(line)?.check())),
         Some("match") => Ok(("match", pairs::parse(line)?.check())),

@@ -113,9 +113,13 @@ impl Run {
         self.begin_with(name, function, octets.len(), &burst.table, burst.room);
         self.input.extend(octets);
 
-        self.output.push_str(&format!("{name}: {:016x} ", burst.answer.pack()));
+        self.output
+            .push_str(&format!("{name}: {:016x} ", burst.answer.pack()));
         for place in 0..burst.places {
-            let answer = burst.answers.get(place).map_or(BEFORE, |answer| answer.pack());
+            let answer = burst
+                .answers
+                .get(place)
+                .map_or(BEFORE, |answer| answer.pack());
             self.output.push_str(&format!("{answer:016x} "));
         }
         for octet in &burst.sent {

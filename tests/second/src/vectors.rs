@@ -23,7 +23,7 @@ pub fn leaves_out_15(kind: Kind, max_packet: usize) -> bool {
 }
 
 /// More room than any case has.
-const LARGEST_ROOM: usize = 1 << 24;
+pub const LARGEST_ROOM: usize = 1 << 24;
 
 /// Hexadecimal digits; `-` for no octets.
 pub fn hex(octets: &[u8]) -> String {

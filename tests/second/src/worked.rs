@@ -1,11 +1,13 @@
 //! The worked packets (docs/RULES.md, Worked packets): each that can be said as a function's result;
-//! those of order 1, Echo; of order 2, UDP checksums; and of order 13, for the readers.
+//! those of order 1, Echo; of order 2, UDP checksums; of order 3, bursts; and of order 13, for the
+//! readers.
 //!
 //! Order 2 restates the packets for D and Di, which had UDP checksum 0 and have the right one now,
 //! and what E6 and a reply over IPv6 write: rows "Inner 100", "Result 164", "D with 8 SIDs", "E6
 //! with SL 1", the SID that D sends to, and the Echo Requests over IPv6. Their answers and
 //! lengths stay. The checksums were computed apart from this program. Over IPv4 nothing changes.
 
+pub mod burst;
 mod checksum;
 
 use crate::answer::Answer;
@@ -663,6 +665,9 @@ pub fn lines() -> Vec<Line> {
 
     for (words, result) in checksum::lines() {
         line(words, result);
+    }
+    for worked in burst::bursts() {
+        line(worked.words, worked.burst.check());
     }
     for worked in readings() {
         line(worked.words, worked.reading.check());

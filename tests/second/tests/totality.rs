@@ -1,6 +1,7 @@
 //! Any packet, any table octets, any output length: an answer, no panic, and
 //! no octet changed that is not the packet's. Built with overflow checks.
 
+use second::burst::{burst, MOST_PACKETS};
 use second::generate::{case, translate, Call};
 use second::loss::{self, Row};
 use second::matching::pairs::{mismatch, Ask};
@@ -120,4 +121,73 @@ fn any_rows() {
         assert_eq!(changed.count(), usize::from(answer == 0));
         assert!(matches!(answer, 0 | 25 | 26));
     }
+}
+
+/// Lengths of any kind, mostly those of octets cut somewhere.
+fn any_lengths(rng: &mut Rng, octets: usize) -> Vec<u32> {
+    let count = rng.pick(&[0, 1, 2, 5, 31, 32, 33, 100]);
+    let mut cuts: Vec<usize> = (1..count).map(|_| rng.below(octets + 1)).collect();
+    cuts.extend([0, octets]);
+    cuts.sort_unstable();
+    let mut lengths: Vec<u32> = cuts
+        .windows(2)
+        .map(|cut| (cut[1] - cut[0]) as u32)
+        .collect();
+    lengths.truncate(count);
+    if let (true, Some(length)) = (rng.chance(20), lengths.last_mut()) {
+        *length = rng.pick(&[0, 1, 0x7fff_ffff, 0x8000_0000, u32::MAX]);
+    }
+    lengths
+}
+
+#[test]
+fn any_burst() {
+    let mut rng = Rng::new(16);
+    let (mut refused, mut sent) = (0, 0);
+    for index in 0..4_000 {
+        let case = case(16, index);
+        let count = rng.between(1, 4);
+        let octets = match rng.chance(20) {
+            true => {
+                let length = any_length(&mut rng);
+                rng.octets(length)
+            }
+            false => case.packet.repeat(count),
+        };
+        let lengths = match rng.chance(40) {
+            true => any_lengths(&mut rng, octets.len()),
+            false => vec![case.packet.len() as u32; count],
+        };
+        let room = rng.pick(&[0, 1, 500, 300_000]);
+        let (filler, before) = (rng.u8(), rng.u64());
+        let mut out = vec![filler; room];
+        let mut answers = vec![before; rng.pick(&[0, 2, 4, 32, 33, 101])];
+        let call = rng.pick(&[case.call, case.call, Call::Ipv6, Call::Ipv4]);
+        let packed = burst(call, &octets, &lengths, &case.table, &mut out, &mut answers);
+        let answer = Answer::unpack(packed);
+        let added_up: u128 = lengths.iter().map(|&length| u128::from(length)).sum();
+        let whole = lengths.len() <= MOST_PACKETS
+            && added_up == octets.len() as u128
+            && answers.len() >= lengths.len();
+        let written = if whole { lengths.len() } else { 0 };
+        assert_eq!(answer.number, if whole { 0 } else { 19 });
+        assert_eq!(packed >> 8 & 0xffff_ffff, 0);
+        let each = answers[..written].iter().map(|&packed| {
+            let answer = Answer::unpack(packed);
+            assert!(answer.number <= 18);
+            assert!(answer.number == 0 || answer.length == 0);
+            answer.length as usize
+        });
+        let sum: usize = each.sum();
+        assert_eq!(answer.length as usize, sum);
+        assert!(sum <= room);
+        assert!(out[sum..].iter().all(|&octet| octet == filler));
+        assert!(answers[written..].iter().all(|&place| place == before));
+        refused += usize::from(!whole);
+        sent += usize::from(sum > 0);
+    }
+    assert!(
+        refused > 1_000 && sent > 200,
+        "{refused} refused, {sent} sent"
+    );
 }

@@ -22,9 +22,10 @@ fn percent(kind: Kind) -> usize {
 
 /// Now and then a request takes the place of what the packet carries.
 pub fn instead(rng: &mut Rng, kind: Kind, draft: &mut Draft) -> Option<&'static str> {
-    if !rng.chance(percent(kind)) {
-        return None;
-    }
+    rng.chance(percent(kind)).then(|| put(rng, kind, draft))
+}
+
+pub fn put(rng: &mut Rng, kind: Kind, draft: &mut Draft) -> &'static str {
     draft.protocol = next_header::UDP;
     draft.upper = UpperDraft::Gtpu(request(rng));
     match kind {
@@ -36,7 +37,7 @@ pub fn instead(rng: &mut Rng, kind: Kind, draft: &mut Draft) -> Option<&'static 
         let length = draft.longest_inner() - rng.below(8);
         draft.inner().resize(length, rng.u8());
     }
-    Some("an Echo Request")
+    "an Echo Request"
 }
 
 /// Some are cut within the first twelve octets, some have a wrong length.

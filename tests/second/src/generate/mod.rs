@@ -103,6 +103,21 @@ impl Kind {
         }
     }
 
+    /// The kind that a packet meets in a sound table, if it meets one.
+    pub fn matched(call: Call, packet: &[u8], table: &Table) -> Option<Kind> {
+        match call {
+            Call::Ipv6 => {
+                let packet = Ipv6Packet::parse(packet).ok()?;
+                let entry = table.entry_for(packet.destination).ok()?;
+                Some(Kind::of(&entry.behaviour))
+            }
+            Call::Ipv4 => {
+                let packet = Ipv4Packet::parse(packet).ok()?;
+                table.rule_for(packet.destination).ok().map(|_| Kind::D4)
+            }
+        }
+    }
+
     fn of(behaviour: &Behaviour) -> Kind {
         match behaviour {
             Behaviour::End => Kind::Waypoint,
@@ -205,20 +220,7 @@ impl Case {
 /// The kind that a packet meets, if it meets one: relabels a case whose damage
 /// led it to another entry.
 fn matched_kind(call: Call, packet: &[u8], table: &[u8]) -> Option<Kind> {
-    let table = Table::decode(table).ok()?;
-    match call {
-        Call::Ipv6 => {
-            let packet = Ipv6Packet::parse(packet).ok()?;
-            table
-                .entry_for(packet.destination)
-                .ok()
-                .map(|entry| Kind::of(&entry.behaviour))
-        }
-        Call::Ipv4 => {
-            let packet = Ipv4Packet::parse(packet).ok()?;
-            table.rule_for(packet.destination).ok().map(|_| Kind::D4)
-        }
-    }
+    Kind::matched(call, packet, &Table::decode(table).ok()?)
 }
 
 /// No result is longer.
@@ -235,6 +237,11 @@ pub fn another(seed: u64, index: u64, packet: u64) -> Case {
     let (mut rng, scene) = scene(seed, index);
     let mut rng = Rng::for_case(rng.u64(), packet);
     case_of(&mut rng, &scene, 0)
+}
+
+/// A packet for a scene, as cases have them; the table stays as it is.
+pub fn packet(rng: &mut Rng, scene: &tables::Scene) -> Vec<u8> {
+    case_of(rng, scene, 0).packet
 }
 
 fn scene(seed: u64, index: u64) -> (Rng, tables::Scene) {
