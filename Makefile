@@ -158,17 +158,19 @@ target/tools/asan/%.o: tools/%.c $(wildcard tools/*.h) include/kawsarpa.h
 	@mkdir -p $(@D)
 	gcc $(tool_flags) $(CPPFLAGS) $(sanitizers) -O1 -c -o $@ $<
 
-# the tool's sources read by clang-tidy, and its commands driven, with the sanitizers
+# the tool's sources read by clang-tidy, its commands driven, with the sanitizers, and the forwarder of examples/ held against it
 tool-test: tool target/tools/kawsarpa-flipped second
 	clang-tidy --quiet $(tool_sources) -- $(tool_flags) $(CPPFLAGS) 2>&1 | sed '/^[0-9]* warnings generated\.$$/d' # those of system headers
 	tests/tools/tables.sh target/tools/kawsarpa-asan $(second)
 	tests/tools/captures.sh target/tools/kawsarpa-asan
+	tests/tools/bursts.sh target/tools/kawsarpa-asan
 	tests/tools/promise.sh target/tools/kawsarpa-asan target/tools/kawsarpa-flipped
 	tests/tools/safety.sh target/tools/kawsarpa-asan
 	tests/tools/loss.sh target/tools/kawsarpa-asan
 	tests/tools/match.sh target/tools/kawsarpa-asan
 	tests/tools/echo.sh target/tools/kawsarpa-asan
 	tests/tools/json.sh target/tools/kawsarpa-asan target/tools/kawsarpa-flipped
+	tests/tools/forwarder.sh target/tools/kawsarpa-asan $(archive)
 	python3 docs/trip.py | cmp - docs/trip.svg
 
 # what is installed, in a directory of its own: files, a C program that finds the library, manual pages, completion

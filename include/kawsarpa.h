@@ -1,5 +1,5 @@
 /*
- * Kawsarpa: translation between GTP-U and SRv6 (RFC 9433), a packet at a time.
+ * Kawsarpa: translation between GTP-U and SRv6 (RFC 9433), a packet at a time or up to 32.
  *
  * A call is lent a packet, a table and a buffer for the packet to send, and answers with one number:
  *
@@ -22,13 +22,18 @@
 #include <stdint.h>
 #include <string.h>
 
-/* A number as another type, and an address as a number, in the words of either language. Both are undefined again at the end. */
+/*
+ * A number as another type, an address as a number, and what stands at an address as octets, in the words of either language. All are
+ * undefined again at the end.
+ */
 #ifdef __cplusplus
 #define KAWSARPA_AS(type, number) static_cast<type>(number)
 #define KAWSARPA_ADDRESS(pointer) reinterpret_cast<uintptr_t>(pointer)
+#define KAWSARPA_OCTETS(pointer) reinterpret_cast<const uint8_t *>(pointer)
 #else
 #define KAWSARPA_AS(type, number) ((type)(number))
 #define KAWSARPA_ADDRESS(pointer) ((uintptr_t)(pointer))
+#define KAWSARPA_OCTETS(pointer) ((const uint8_t *)(pointer))
 #endif
 
 /*
@@ -171,7 +176,10 @@ static inline uint64_t kawsarpa_call_table_fault(const uint8_t *table, size_t ta
  * Number in bits 0 to 7, ICMP type in 8 to 15, ICMP code in 16 to 23, ICMP pointer in 24 to 39, length in 40 to 63.
  */
 
-/* The first number that applies, in this order: 1 to 9, 18, 10, 17 (of an Echo Request) or 11 (of other messages), 12 to 16. */
+/*
+ * The first number that applies, in this order: 1 to 9, 18, 10, 17 (of an Echo Request) or 11 (of other messages), 12 to 16. A burst as a
+ * whole answers 0 or 19.
+ */
 static inline uint8_t kawsarpa_answer_number(uint64_t answer)
 {
     return KAWSARPA_AS(uint8_t, answer & 0xFF);
@@ -296,10 +304,13 @@ static inline int kawsarpa_is_echo_response(const uint8_t *sent, size_t length)
  *     uint64_t answers[KAWSARPA_BURST_MAX];
  *     struct kawsarpa_burst_result result;
  *
- *     kawsarpa_call_burst_ipv6(packets, packets_len, lengths, count, table, table_len, out, out_len, answers, KAWSARPA_BURST_MAX);
- *     kawsarpa_burst_first(&result);
- *     while (kawsarpa_burst_next(&result, answers, count))
- *         send_on(out + result.at, result.length);
+ *     uint64_t answer = kawsarpa_call_burst_ipv6(packets, packets_len, lengths, count, table, table_len, out, out_len, answers,
+ *                                                KAWSARPA_BURST_MAX);
+ *     if (kawsarpa_answer_number(answer) == KAWSARPA_ANSWER_SENT) {
+ *         kawsarpa_burst_first(&result);
+ *         while (kawsarpa_burst_next(&result, answers, count))
+ *             send_on(out + result.at, result.length);
+ *     }
  *
  * Each answer, and each octet, is that of a single call for the packet with the room then left, which is the output less what was sent
  * before. A refused packet takes no room, so after one that was refused with 16 a shorter one may still be sent. ICMP pointers count
@@ -312,8 +323,9 @@ static inline int kawsarpa_is_echo_response(const uint8_t *sent, size_t length)
  *
  * An output of packets_len + count x KAWSARPA_GROWTH_MAX octets has room for every result, and so has one of KAWSARPA_BURST_OUT_MAX.
  *
- * The caller owes what he owes a call, and that the answers overlap nothing else that is lent, and `out` neither lengths nor answers.
- * Lengths and answers are aligned as their types ask; packets, table and output may begin at any address, and results lie at any.
+ * The caller owes what he owes a call; that the answers overlap nothing else that is lent, and `out` neither lengths nor answers; and
+ * that the lengths do not change during the call. `count` and `answers_count` count lengths and answers, not octets; these are aligned
+ * as their types ask. Packets, table and output may begin at any address, and results lie at any.
  */
 enum {
     KAWSARPA_BURST_MAX = 32,
@@ -334,7 +346,23 @@ uint64_t kawsarpa_burst_ipv4(const uint8_t *packets, size_t packets_len, const u
 }
 #endif
 
-/* The same, for a caller whose pointer may be null where the count is 0; they assert that the output overlaps neither packets nor table. */
+/* 1 where what a burst is lent lies apart as the caller owes it, else 0. */
+static inline int kawsarpa_burst_apart(const uint8_t *packets, size_t packets_len, const uint32_t *lengths, size_t count,
+                                       const uint8_t *table, size_t table_len, const uint8_t *out, size_t out_len, const uint64_t *answers,
+                                       size_t answers_count)
+{
+    const uint8_t *const length_octets = KAWSARPA_OCTETS(lengths);
+    const uint8_t *const answer_octets = KAWSARPA_OCTETS(answers);
+    const size_t lengths_len = count * sizeof *lengths;
+    const size_t answers_len = answers_count * sizeof *answers;
+    return kawsarpa_apart(out, out_len, packets, packets_len) && kawsarpa_apart(out, out_len, table, table_len) &&
+           kawsarpa_apart(out, out_len, length_octets, lengths_len) && kawsarpa_apart(out, out_len, answer_octets, answers_len) &&
+           kawsarpa_apart(answer_octets, answers_len, packets, packets_len) &&
+           kawsarpa_apart(answer_octets, answers_len, table, table_len) &&
+           kawsarpa_apart(answer_octets, answers_len, length_octets, lengths_len);
+}
+
+/* The same bursts, for a caller whose pointer may be null where the count is 0. They assert that what is lent lies apart. */
 
 static inline uint64_t kawsarpa_call_burst_ipv6(const uint8_t *packets, size_t packets_len, const uint32_t *lengths, size_t count,
                                                 const uint8_t *table, size_t table_len, uint8_t *out, size_t out_len, uint64_t *answers,
@@ -343,8 +371,7 @@ static inline uint64_t kawsarpa_call_burst_ipv6(const uint8_t *packets, size_t p
     uint8_t none = 0;
     uint32_t no_length = 0;
     uint64_t no_answer = 0;
-    assert(kawsarpa_apart(out, out_len, packets, packets_len));
-    assert(kawsarpa_apart(out, out_len, table, table_len));
+    assert(kawsarpa_burst_apart(packets, packets_len, lengths, count, table, table_len, out, out_len, answers, answers_count));
     return kawsarpa_burst_ipv6(packets_len == 0 ? &none : packets, packets_len, count == 0 ? &no_length : lengths, count,
                                table_len == 0 ? &none : table, table_len, out_len == 0 ? &none : out, out_len,
                                answers_count == 0 ? &no_answer : answers, answers_count);
@@ -357,8 +384,7 @@ static inline uint64_t kawsarpa_call_burst_ipv4(const uint8_t *packets, size_t p
     uint8_t none = 0;
     uint32_t no_length = 0;
     uint64_t no_answer = 0;
-    assert(kawsarpa_apart(out, out_len, packets, packets_len));
-    assert(kawsarpa_apart(out, out_len, table, table_len));
+    assert(kawsarpa_burst_apart(packets, packets_len, lengths, count, table, table_len, out, out_len, answers, answers_count));
     return kawsarpa_burst_ipv4(packets_len == 0 ? &none : packets, packets_len, count == 0 ? &no_length : lengths, count,
                                table_len == 0 ? &none : table, table_len, out_len == 0 ? &none : out, out_len,
                                answers_count == 0 ? &no_answer : answers, answers_count);
@@ -1148,5 +1174,6 @@ static inline uint64_t kawsarpa_table_sort(uint8_t *table, size_t table_len)
 
 #undef KAWSARPA_AS
 #undef KAWSARPA_ADDRESS
+#undef KAWSARPA_OCTETS
 
 #endif

@@ -69,23 +69,22 @@ int capture_open(struct capture_reader *reader, const char *name)
     return code == EXIT_DONE ? judge_link(reader) : code;
 }
 
-/* Says it of the first few: where one is snapped, most are. */
-static void say_snapped(const struct capture_reader *reader, const struct pcap_pkthdr *header)
+static void say_snapped(struct capture_reader *reader)
 {
-    if (reader->counts.snapped > SNAPPED_SAID)
-        return;
-    say_error_at(reader->name, 0, "packet %lu is snapped, %u octets of %u: it is left out%s", reader->counts.frames, header->caplen,
-                 header->len, reader->counts.snapped == SNAPPED_SAID ? "; more are only counted" : "");
+    say_error_at(reader->name, 0, "packet %lu is snapped, %u octets of %u: it is left out%s", reader->counts.frames, reader->header->caplen,
+                 reader->header->len, reader->counts.snapped == SNAPPED_SAID ? "; more are only counted" : "");
 }
 
 /* Whether the frame holds an IP packet, whole; it is counted as what it is. */
-static bool take(struct capture_reader *reader, const struct pcap_pkthdr *header, const uint8_t *octets, struct capture_packet *packet)
+static bool take(struct capture_reader *reader, const uint8_t *octets, struct capture_packet *packet)
 {
+    const struct pcap_pkthdr *header = reader->header;
     struct capture_counts *counts = &reader->counts;
     counts->frames++;
     if (header->caplen < header->len) {
         counts->snapped++;
-        say_snapped(reader, header);
+        if (counts->snapped <= SNAPPED_SAID) /* of the first few: where one is snapped, most are */
+            reader->words = say_snapped;
         return false;
     }
     const struct frame frame = frame_read(reader->link, octets, header->caplen);
@@ -116,17 +115,38 @@ static void say_fault(struct capture_reader *reader)
                  reader->counts.cut ? ": the capture is cut here, and only what comes before is used" : "");
 }
 
+/* Says what is due; true: it is the end. */
+static bool say_words(struct capture_reader *reader)
+{
+    void (*words)(struct capture_reader *) = reader->words;
+    reader->words = NULL;
+    if (words != NULL)
+        words(reader);
+    return words == say_fault;
+}
+
+enum capture_step capture_step(struct capture_reader *reader, struct capture_packet *packet)
+{
+    const u_char *octets = NULL;
+    int result = 1;
+    if (say_words(reader))
+        return CAPTURE_END;
+    while (reader->words == NULL && (result = pcap_next_ex(reader->pcap, &reader->header, &octets)) == 1)
+        if (take(reader, octets, packet))
+            return CAPTURE_PACKET;
+    if (result == PCAP_ERROR_BREAK)
+        return CAPTURE_END;
+    if (result != 1)
+        reader->words = say_fault;
+    return CAPTURE_WORDS;
+}
+
 bool capture_next(struct capture_reader *reader, struct capture_packet *packet)
 {
-    struct pcap_pkthdr *header = NULL;
-    const u_char *octets = NULL;
-    int result;
-    while ((result = pcap_next_ex(reader->pcap, &header, &octets)) == 1)
-        if (take(reader, header, octets, packet))
-            return true;
-    if (result != PCAP_ERROR_BREAK)
-        say_fault(reader);
-    return false;
+    enum capture_step step = CAPTURE_WORDS;
+    while (step == CAPTURE_WORDS)
+        step = capture_step(reader, packet);
+    return step == CAPTURE_PACKET;
 }
 
 int capture_end_code(const struct capture_reader *reader)

@@ -31,14 +31,25 @@ struct capture_reader {
     struct pcap *pcap;
     int link;
     struct capture_counts counts;
-    int code; /* not 0: a fault was reported, and this is the exit code */
+    int code;                               /* not 0: a fault was reported, and this is the exit code */
+    struct pcap_pkthdr *header;             /* of the last frame */
+    void (*words)(struct capture_reader *); /* what is said at the next step; NULL: nothing */
 };
 
 /* Opens a capture; "-" is standard input. 0, or the exit code after the fault was reported. */
 int capture_open(struct capture_reader *reader, const char *name);
 
-/* The next IP packet. Other frames and snapped ones are counted and left out. False: the end, also of a capture that is cut there, or a
+enum capture_step {
+    CAPTURE_PACKET,
+    CAPTURE_WORDS, /* something is to be said of a frame, at the next step: who is behind with packets can catch up before that */
+    CAPTURE_END,
+};
+
+/* The next IP packet. Other frames and snapped ones are counted and left out. The end is also that of a capture that is cut there, or a
    fault; the reader's code says which. */
+enum capture_step capture_step(struct capture_reader *reader, struct capture_packet *packet);
+
+/* The same for who is not behind. False: the end. */
 bool capture_next(struct capture_reader *reader, struct capture_packet *packet);
 
 /* The exit code of a capture that was read to its end. */

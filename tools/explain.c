@@ -51,7 +51,7 @@ static error_t parse(int key, char *argument, struct argp_state *state)
 }
 
 static const char help_text[] =
-    "Says what an answer (0 to 18, 25 or 26) means, what it is likely to come from, and what to do next; with --fault, what is wrong with "
+    "Says what an answer (0 to 19, 25 or 26) means, what it is likely to come from, and what to do next; with --fault, what is wrong with "
     "a table; with --match, why tables do not fit. NUMBER is decimal, or hexadecimal behind 0x."
     "\vExit codes: 0 explained; 1 there is no such number; 2 wrong usage; 3 the system failed.";
 
@@ -89,7 +89,7 @@ static int explain_answer(const char *text, unsigned long long number)
 {
     const struct answer_words *answer = answer_words(number);
     if (answer == NULL) {
-        say_error("%s is no answer: answers are 0 to %d, %d and %d", text, KAWSARPA_ANSWER_BAD_CHECKSUM, KAWSARPA_ANSWER_NO_ROW,
+        say_error("%s is no answer: answers are 0 to %d, %d and %d", text, KAWSARPA_ANSWER_BAD_BURST, KAWSARPA_ANSWER_NO_ROW,
                   KAWSARPA_ANSWER_ROW_FULL);
         return EXIT_INPUT;
     }

@@ -15,19 +15,24 @@ static uint64_t call(const struct stop *stop, unsigned int version, const uint8_
                         : kawsarpa_call_ipv6(packet, length, stop->table.at, stop->table.count, out, STOP_ROOM);
 }
 
-struct outcome stop_call(const struct stop *stop, unsigned int version, const uint8_t *packet, size_t length, uint8_t out[STOP_ROOM])
+struct outcome stop_outcome(uint64_t answer, const uint8_t *packet, size_t length, const uint8_t *sent)
 {
-    struct outcome outcome = {.answer = call(stop, version, packet, length, out)};
-    if (kawsarpa_answer_number(outcome.answer) == KAWSARPA_ANSWER_SENT) {
-        outcome.sent = out;
-        outcome.sent_length = kawsarpa_answer_length(outcome.answer);
-        outcome.echo_answered = kawsarpa_is_echo_response(out, outcome.sent_length) != 0;
+    struct outcome outcome = {.answer = answer};
+    if (kawsarpa_answer_number(answer) == KAWSARPA_ANSWER_SENT) {
+        outcome.sent = sent;
+        outcome.sent_length = kawsarpa_answer_length(answer);
+        outcome.echo_answered = kawsarpa_is_echo_response(sent, outcome.sent_length) != 0;
     }
-    if (kawsarpa_answer_number(outcome.answer) == KAWSARPA_ANSWER_BAD_CHECKSUM) {
+    if (kawsarpa_answer_number(answer) == KAWSARPA_ANSWER_BAD_CHECKSUM) {
         const struct packet_reading reading = packet_read(packet, length);
         outcome.checksum = checksum_read(&reading);
     }
     return outcome;
+}
+
+struct outcome stop_call(const struct stop *stop, unsigned int version, const uint8_t *packet, size_t length, uint8_t out[STOP_ROOM])
+{
+    return stop_outcome(call(stop, version, packet, length, out), packet, length, out);
 }
 
 /* What the library says of an IPv6 destination: 0 where an End entry is its longest match; it names one of another behaviour. */

@@ -34,6 +34,9 @@ struct outcome {
     struct checksum_reading checksum; /* of the packet, where it was refused for it */
 };
 
+/* What an answer of the library says of a packet; what was sent, where something was, stands in sent. */
+struct outcome stop_outcome(uint64_t answer, const uint8_t *packet, size_t length, const uint8_t *sent);
+
 /* The library's call for a packet of this IP version; what is sent stands in out. */
 struct outcome stop_call(const struct stop *stop, unsigned int version, const uint8_t *packet, size_t length, uint8_t out[STOP_ROOM]);
 

@@ -4,6 +4,7 @@
 #include <stdint.h>
 #include <stdio.h>
 
+#include "burst.h"
 #include "capture.h"
 #include "commands.h"
 #include "describe.h"
@@ -26,6 +27,8 @@ struct arguments {
 struct run {
     struct stop stop;
     struct capture_reader reader;
+    struct burst burst;
+    struct progress progress;
     struct output out;
     FILE *account;    /* where the trace and the summary go */
     struct json json; /* begun when there is something to tell */
@@ -118,35 +121,71 @@ static void count(struct run *run, const struct capture_packet *packet, const st
     }
 }
 
-/* Translates one packet; the exit code, not 0 where what was sent, or its trace, could not be written. */
+/* What becomes of a packet; the exit code, not 0 where what was sent, or its trace, could not be written. */
+static int finish_packet(struct run *run, const struct capture_packet *packet, const struct outcome *outcome)
+{
+    int code = EXIT_DONE;
+    count(run, packet, outcome);
+    if (run->trace) {
+        const struct trace trace = make_trace(run, packet, outcome);
+        (run->as_json ? json_trace : say_trace)(run, &trace);
+        code = output_printed(run->account);
+    }
+    if (code != EXIT_DONE || outcome->sent == NULL)
+        return code;
+    const bool added = capture_add(run->out.file, packet->time, outcome->sent, outcome->sent_length);
+    return added ? EXIT_DONE : output_fault(&run->out);
+}
+
+/* Translates the packets that are gathered; the exit code. */
+static int translate_burst(struct run *run)
+{
+    struct burst *burst = &run->burst;
+    int code = EXIT_DONE;
+    burst_call(burst, &run->stop);
+    for (size_t i = 0; code == EXIT_DONE && i < burst->count; i++) {
+        code = finish_packet(run, &burst->packets[i], &burst->outcomes[i]);
+        progress_at(&run->progress, burst->packets[i].number);
+    }
+    burst_clear(burst);
+    return code;
+}
+
+/* Gathers a packet, and translates what is gathered where that is due; the exit code. */
+static int gather_packet(struct run *run, const struct capture_packet *packet)
+{
+    const int code = burst_takes(&run->burst, packet) ? EXIT_DONE : translate_burst(run);
+    if (code != EXIT_DONE)
+        return code;
+    burst_add(&run->burst, packet);
+    return burst_full(&run->burst) ? translate_burst(run) : EXIT_DONE;
+}
+
+/* Translates a packet by itself; the exit code. */
 static int translate_packet(struct run *run, const struct capture_packet *packet)
 {
     static uint8_t sent[STOP_ROOM];
     const struct outcome outcome = stop_call(&run->stop, packet->version, packet->octets, packet->length, sent);
-    int code = EXIT_DONE;
-    count(run, packet, &outcome);
-    if (run->trace) {
-        const struct trace trace = make_trace(run, packet, &outcome);
-        (run->as_json ? json_trace : say_trace)(run, &trace);
-        code = output_printed(run->account);
-    }
-    if (code != EXIT_DONE || outcome.sent == NULL)
-        return code;
-    const bool added = capture_add(run->out.file, packet->time, outcome.sent, outcome.sent_length);
-    return added ? EXIT_DONE : output_fault(&run->out);
+    const int code = finish_packet(run, packet, &outcome);
+    progress_at(&run->progress, packet->number);
+    return code;
 }
 
-/* From the reader into the output, packet by packet; the exit code. */
+/* From the reader into the output, in bursts; but a trace is told packet by packet, while the capture comes. The exit code. */
 static int translate_all(struct run *run)
 {
     struct capture_packet packet;
-    struct progress progress = progress_begin(!run->quiet);
+    enum capture_step step = CAPTURE_WORDS;
+    run->progress = progress_begin(!run->quiet);
     int code = capture_begin(run->out.file) ? EXIT_DONE : output_fault(&run->out);
-    while (code == EXIT_DONE && capture_next(&run->reader, &packet)) {
-        code = translate_packet(run, &packet);
-        progress_at(&progress, packet.number);
+    while (code == EXIT_DONE && step != CAPTURE_END) {
+        step = capture_step(&run->reader, &packet);
+        if (step == CAPTURE_PACKET)
+            code = (run->trace ? translate_packet : gather_packet)(run, &packet);
+        else /* nothing is said of a frame before what comes before it is translated */
+            code = translate_burst(run);
     }
-    progress_end(&progress);
+    progress_end(&run->progress);
     return code == EXIT_DONE ? run->reader.code : code;
 }
 
@@ -320,7 +359,10 @@ int command_translate(int argc, char **argv)
 {
     struct arguments arguments = {.table = NULL};
     argp_parse(&argp, argc, argv, 0, NULL, &arguments);
-    struct run run = {.trace = arguments.trace, .as_json = arguments.json, .quiet = arguments.quiet};
+    static struct run run; /* a burst is large */
+    run.trace = arguments.trace;
+    run.as_json = arguments.json;
+    run.quiet = arguments.quiet;
     run.account = run.quiet ? output_nowhere() : file_is_standard(arguments.out) ? stderr : stdout;
     const char *const inputs[] = {arguments.table, arguments.in};
     if (file_standard_twice(inputs, 2) || output_taken(&arguments, run.account))

@@ -164,6 +164,13 @@ static const struct answer_words answers[] = {
      "mend the checksum, such as an address translator.",
      "`kawsarpa translate' counts these apart, and its trace has both checksums. Capture on the wire or at the receiver, or after "
      "`ethtool -K DEVICE tx off' on the sender. For 0, have the peer write checksums, or set `zero-checksum: allow' in the entry."},
+    [KAWSARPA_ANSWER_BAD_BURST] =
+    {"A burst, so a call for several packets: more than 32 lengths, lengths that do not add up to the octets that were handed over, or "
+     "fewer places for answers than lengths.",
+     NULL,
+     "A fault of the program that calls the library, and not of a packet or of the table. No packet of the burst was looked at, none was "
+     "sent, and none has an answer of its own.",
+     "Report it to whoever writes that program: it has to hand over at most 32 packets, one after the other, with the length of each."},
     [KAWSARPA_ANSWER_NO_ROW] =
     {"An offer of a sequence number: the TEID has no row, and no row is free. There are 256 at most.",
      NULL,

@@ -1,6 +1,7 @@
 /*
  * Overlapping buffers from C: kawsarpa_apart says which overlap, and the forms kawsarpa_call_... of a build without NDEBUG assert that
- * the output overlaps neither the packet nor the table. Prints a line for each check.
+ * the output overlaps neither the packet nor the table; kawsarpa_burst_apart asks it of all that a burst is lent. Prints a line for each
+ * check.
  */
 #undef NDEBUG
 #include "checks.h"
@@ -48,6 +49,49 @@ static void check_call(call_function *call, const char *name)
     check(aborts(call, 0, 100, 110, 1), name, "an output within the table is asserted");
 }
 
+/* A burst of one packet. */
+static uint64_t burst_ipv6(const uint8_t *packet, size_t packet_len, const uint8_t *table, size_t table_len, uint8_t *out, size_t out_len)
+{
+    const uint32_t length = (uint32_t)packet_len;
+    uint64_t answer;
+    return kawsarpa_call_burst_ipv6(packet, packet_len, &length, 1, table, table_len, out, out_len, &answer, 1);
+}
+
+static uint64_t burst_ipv4(const uint8_t *packet, size_t packet_len, const uint8_t *table, size_t table_len, uint8_t *out, size_t out_len)
+{
+    const uint32_t length = (uint32_t)packet_len;
+    uint64_t answer;
+    return kawsarpa_call_burst_ipv4(packet, packet_len, &length, 1, table, table_len, out, out_len, &answer, 1);
+}
+
+/* What a burst is lent, 16 octets of each. */
+static union {
+    uint8_t octets[128];
+    uint32_t lengths[32];
+    uint64_t answers[16];
+} space;
+
+/* Whether it lies apart from these octets on; lengths and answers are aligned. */
+static int burst_apart(size_t packets, size_t table, size_t lengths, size_t out, size_t answers)
+{
+    return kawsarpa_burst_apart(space.octets + packets, 16, space.lengths + lengths / 4, 4, space.octets + table, 16, space.octets + out,
+                                16, space.answers + answers / 8, 2);
+}
+
+static void check_burst_apart(void)
+{
+    check(burst_apart(0, 16, 32, 48, 64), "burst", "one behind the other is apart");
+    check(burst_apart(64, 48, 32, 16, 0), "burst", "and so in the other order");
+    check(burst_apart(0, 0, 0, 16, 32), "burst", "packets, table and lengths may overlap");
+    check(!burst_apart(0, 32, 48, 15, 64), "burst", "an output over the packets");
+    check(!burst_apart(32, 0, 48, 15, 64), "burst", "an output over the table");
+    check(!burst_apart(32, 48, 0, 15, 64), "burst", "an output over the lengths");
+    check(!burst_apart(32, 48, 64, 15, 0), "burst", "an output over the answers");
+    check(!burst_apart(9, 32, 48, 64, 0), "burst", "answers over the packets");
+    check(!burst_apart(32, 9, 48, 64, 0), "burst", "answers over the table");
+    check(!burst_apart(32, 48, 12, 64, 0), "burst", "answers over the lengths");
+}
+
 static void check_apart(void)
 {
     uint8_t *const end = memory + sizeof memory;
@@ -70,6 +114,9 @@ int main(void)
     check_call(kawsarpa_call_ipv6, "call_ipv6");
     check_call(kawsarpa_call_ipv4, "call_ipv4");
     check_call(kawsarpa_call_waypoint, "call_waypoint");
+    check_burst_apart();
+    check_call(burst_ipv6, "call_burst_ipv6");
+    check_call(burst_ipv4, "call_burst_ipv4");
     if (failures != 0) {
         printf("apart: %u of %u checks do not hold\n", failures, checks);
         return 1;

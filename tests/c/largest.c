@@ -1,6 +1,6 @@
 /*
- * KAWSARPA_GROWTH_MAX and KAWSARPA_OUT_MAX from C: for each behaviour the packet that grows most, and the longest packets that are sent.
- * Prints a line for each check.
+ * KAWSARPA_GROWTH_MAX, KAWSARPA_OUT_MAX and KAWSARPA_BURST_OUT_MAX from C: for each behaviour the packet that grows most, the longest
+ * packets that are sent, and bursts of 32 such packets. Prints a line for each check.
  */
 #include "checks.h"
 #include "checksum.h"
@@ -15,7 +15,13 @@
 static uint8_t out[KAWSARPA_OUT_MAX + 1];
 static uint8_t packet[KAWSARPA_OUT_MAX + 1];
 
+/* 32 copies of a packet, and one octet more than their results. */
+static uint8_t packets[KAWSARPA_BURST_MAX * KAWSARPA_OUT_MAX];
+static uint8_t burst_out[KAWSARPA_BURST_OUT_MAX + 1];
+
 typedef uint64_t call_function(const uint8_t *, size_t, const uint8_t *, size_t, uint8_t *, size_t);
+typedef uint64_t burst_function(const uint8_t *, size_t, const uint32_t *, size_t, const uint8_t *, size_t, uint8_t *, size_t, uint64_t *,
+                                size_t);
 
 /* The table of calls.c with 8 SIDs and 7 waypoints, for Ethernet throughout: there an inner packet may be empty. */
 static struct table build_largest(void)
@@ -159,12 +165,58 @@ static void check_longest(const struct table *table)
     sent(kawsarpa_call_waypoint, table, length, KAWSARPA_OUT_MAX, "waypoint");
 }
 
+/* A burst of 32 times the packet: in the room that the header names all are sent, with an octet less all but the last. */
+static void burst_sent(burst_function *burst, const struct table *table, size_t length, size_t room, const char *subject)
+{
+    uint32_t lengths[KAWSARPA_BURST_MAX];
+    uint64_t answers[KAWSARPA_BURST_MAX], answer;
+    struct kawsarpa_burst_result result;
+    size_t results = 0, sent_length, short_by, i;
+    char claim[80];
+
+    for (i = 0; i < KAWSARPA_BURST_MAX; i++) {
+        memcpy(packets + i * length, packet, length);
+        lengths[i] = (uint32_t)length;
+    }
+    for (short_by = 0; short_by < 2; short_by++) {
+        const size_t expected = KAWSARPA_BURST_MAX - short_by;
+        answer = burst(packets, KAWSARPA_BURST_MAX * length, lengths, KAWSARPA_BURST_MAX, (const uint8_t *)table, sizeof *table, burst_out,
+                       room - short_by, answers, KAWSARPA_BURST_MAX);
+        sent_length = room / KAWSARPA_BURST_MAX;
+        results = 0;
+        kawsarpa_burst_first(&result);
+        while (kawsarpa_burst_next(&result, answers, KAWSARPA_BURST_MAX))
+            results += result.packet == results && result.at == results * sent_length && result.length == sent_length;
+        snprintf(claim, sizeof claim, "room %u: %u of 32 are sent, %u octets each", (unsigned int)(room - short_by), (unsigned int)expected,
+                 (unsigned int)sent_length);
+        check(answer == (uint64_t)(expected * sent_length) << 40 && results == expected, subject, claim);
+    }
+    check(kawsarpa_answer_number(answers[KAWSARPA_BURST_MAX - 1]) == KAWSARPA_ANSWER_NO_ROOM, subject,
+          "with an octet less the last has no room");
+}
+
+/* D4 with 7 waypoints grows most, and is longest: the rooms that the header names are no larger than they have to be. */
+static void check_bursts(const struct table *table)
+{
+    size_t length = g_pdu4(0);
+    burst_sent(kawsarpa_call_burst_ipv4, table, length, KAWSARPA_BURST_MAX * (length + KAWSARPA_GROWTH_MAX), "32 of D4, nothing inside");
+    length = g_pdu4(1);
+    burst_sent(kawsarpa_call_burst_ipv4, table, length, KAWSARPA_BURST_MAX * (length + KAWSARPA_GROWTH_MAX), "32 of D4, one octet inside");
+    length = g_pdu4(65399);
+    check(KAWSARPA_BURST_MAX * (length + KAWSARPA_GROWTH_MAX) == KAWSARPA_BURST_OUT_MAX, "32 of D4, the longest", "both rooms are one");
+    burst_sent(kawsarpa_call_burst_ipv4, table, length, KAWSARPA_BURST_OUT_MAX, "32 of D4, the longest");
+    burst_sent(kawsarpa_call_burst_ipv6, table, g_pdu6(to_di, KAWSARPA_DIRECTION_DOWNLINK, 65383), KAWSARPA_BURST_OUT_MAX,
+               "32 of Di, the longest");
+    burst_sent(kawsarpa_call_burst_ipv6, table, to_e6_with_one(65511), KAWSARPA_BURST_OUT_MAX, "32 of E6, the longest");
+}
+
 int main(void)
 {
     const struct table table = build_largest();
     check(kawsarpa_call_table_fault((const uint8_t *)&table, sizeof table) == 0, "table", "sound");
     check_growth(&table);
     check_longest(&table);
+    check_bursts(&table);
     if (failures != 0) {
         printf("largest: %u of %u checks do not hold\n", failures, checks);
         return 1;

@@ -1,6 +1,6 @@
 #!/usr/bin/env bash
-# run.sh LIB: kawsarpa.h by itself, the symbols of the archive, and calls.c, faults.c, losses.c, matches.c, sorted.c, largest.c and
-# apart.c linked with it as C99, as C++17 and beside the sanitizers; and that NDEBUG leaves no assertion in the calls.
+# run.sh LIB: kawsarpa.h by itself, the symbols of the archive, and calls.c, bursts.c, faults.c, losses.c, matches.c, sorted.c, largest.c
+# and apart.c linked with it as C99, as C++17 and beside the sanitizers; and that NDEBUG leaves no assertion in calls and bursts.
 set -eu
 
 if [ $# -ne 1 ]; then
@@ -22,7 +22,7 @@ fail() {
 linked() { # WHAT COMPILER...
     local what=$1 program
     shift
-    for program in calls faults losses matches sorted largest apart; do
+    for program in calls bursts faults losses matches sorted largest apart; do
         "$@" -O2 -g -Werror -Wall -Wextra -Wpedantic -Wconversion -I "$include" -I "$work" -o "$work/$program" "$here/$program.c" \
             -x none "$lib" || fail "$program.c was not built: $what"
         if ! "$work/$program" >"$work/output" 2>&1; then
@@ -36,20 +36,23 @@ linked() { # WHAT COMPILER...
 [ -r "$lib" ] || fail "no such library: $lib"
 "$here/header.sh" || fail "kawsarpa.h failed"
 "$here/symbols.sh" "$lib" || fail "the symbols of $lib failed"
-# the examples that kawsarpa.h gives in two of its parts; losses.c includes the one, matches.c the other
+# the examples that kawsarpa.h gives in three of its parts; bursts.c, losses.c and matches.c include them
 example() { # PART
     sed -n "/^ \* $1\$/,/^ \*\/\$/s/^ \*     //p" "$include/kawsarpa.h"
 }
+example "BURSTS" >"$work/burst_example.h"
 example "LOST SEQUENCE NUMBERS" >"$work/example.h"
 example "TABLES THAT FIT" >"$work/match.h"
 linked "C99" gcc -std=c99
 linked "C++17" g++ -x c++ -std=c++17
 linked "C99 with sanitizers" gcc -std=c99 -fsanitize=address,undefined -fno-sanitize-recover=all
 
-asserts() { # NDEBUG
-    gcc -std=c99 -O2 "$1" -I "$include" -c -o "$work/calls.o" "$here/calls.c"
-    nm --undefined-only "$work/calls.o" | grep -c __assert_fail || true
+asserts() { # NDEBUG PROGRAM
+    gcc -std=c99 -O2 "$1" -I "$include" -I "$work" -c -o "$work/$2.o" "$here/$2.c"
+    nm --undefined-only "$work/$2.o" | grep -c __assert_fail || true
 }
-[ "$(asserts -UNDEBUG)" = 1 ] || fail "without NDEBUG the calls assert nothing"
-[ "$(asserts -DNDEBUG)" = 0 ] || fail "with NDEBUG an assertion is left in the calls"
-echo "assertions: in the calls without NDEBUG, none with it"
+for program in calls bursts; do
+    [ "$(asserts -UNDEBUG $program)" = 1 ] || fail "without NDEBUG the $program assert nothing"
+    [ "$(asserts -DNDEBUG $program)" = 0 ] || fail "with NDEBUG an assertion is left in the $program"
+done
+echo "assertions: in calls and bursts without NDEBUG, none with it"

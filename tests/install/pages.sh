@@ -142,15 +142,27 @@ same "kawsarpa(3): the program prints something else" "$(section "$library_page"
     echo 'void fit(const uint8_t *near_table, size_t near_len, const uint8_t *far_table, size_t far_len) {'
     display "$library_page" EXAMPLES 3
     echo '}'
+    echo 'void send_on(const uint8_t *result, size_t length);'
+    echo 'void burst(const uint8_t *packets, size_t packets_len, const uint32_t *lengths, size_t count, const uint8_t *table,'
+    echo '           size_t table_len, uint8_t *out, size_t out_len);'
+    echo 'void burst(const uint8_t *packets, size_t packets_len, const uint32_t *lengths, size_t count, const uint8_t *table,'
+    echo '           size_t table_len, uint8_t *out, size_t out_len) {'
+    display "$library_page" EXAMPLES 4
+    echo '}'
 } >"$work/parts.c"
 gcc -std=c99 "${warnings[@]}" -I "$top/include" -c -o "$work/parts.o" "$work/parts.c" || fail "kawsarpa(3): an example does not compile"
 same "kawsarpa(3): other calls in the examples" "kawsarpa_call_sequence_ipv6
 kawsarpa_loss_offer
-kawsarpa_match_table" "$(sed -n 's/.*\b\(kawsarpa_call_sequence_ipv6\|kawsarpa_loss_offer\|kawsarpa_match_table\)(.*/\1/p' "$work/parts.c")"
-section "$library_page" "Lost sequence numbers" | sed -n '/struct kawsarpa_loss_row {/,/};/p' | sed 's|/\*.*||' | tr -d ' ' >"$work/row"
-same "kawsarpa(3): the row is not that of the header" \
-    "$(sed -n '/^struct kawsarpa_loss_row {/,/^};/p' "$top/include/kawsarpa.h" | sed '/^#ifdef/,/^#else/d; /^#/d; s|/\*.*||' | tr -d ' ')" \
-    "$(cat "$work/row")"
+kawsarpa_match_table
+kawsarpa_call_burst_ipv6
+kawsarpa_burst_next" "$(grep -oE '\bkawsarpa_(call_sequence_ipv6|loss_offer|match_table|call_burst_ipv6|burst_next)\(' "$work/parts.c" |
+    tr -d '(')"
+for pair in "loss_row:Lost sequence numbers" burst_result:Bursts; do
+    struct="struct kawsarpa_${pair%%:*}"
+    same "kawsarpa(3): $struct is not that of the header" \
+        "$(sed -n "/^$struct {/,/^};/p" "$top/include/kawsarpa.h" | sed '/^#ifdef/,/^#else/d; /^#/d; s|/\*.*||' | tr -d ' ')" \
+        "$(section "$library_page" "${pair#*:}" | sed -n "/$struct {/,/};/p" | sed 's|/\*.*||' | tr -d ' ')"
+done
 
 ### kawsarpa-table(5): the keys of a description, by the schema of the tool
 

@@ -1,6 +1,6 @@
 #!/usr/bin/env bash
-# run.sh: what `make install` puts into a directory of its own, that it builds nothing where nothing is missing, a C program that finds the
-# library there by pkg-config, the version everywhere, and what `make uninstall` leaves. The library and the tool are built before.
+# run.sh: what `make install` puts into a directory of its own, that it builds nothing where nothing is missing, two C programs that find
+# the library there by pkg-config, the version everywhere, and what `make uninstall` leaves. The library and the tool are built before.
 set -eu -o pipefail
 
 if [ $# -ne 0 ]; then
@@ -95,6 +95,12 @@ for static in '' -static; do
     (cd "$work" && gcc -std=c99 -Werror -Wall -Wextra -Wpedantic -Wconversion -o example "${flags[@]}")
     same "the program of README.md prints something else" "$expected" "$("$work/example")"
 done
+
+# and the forwarder, by the line of its README
+line=$(sed -n 's/^    \(gcc .*pkg-config.*\)/\1/p' "$top/examples/forwarder/README.md")
+cp "$top/examples/forwarder/forwarder.c" "$work"
+(cd "$work" && PKG_CONFIG_SYSROOT_DIR=$tree PKG_CONFIG_LIBDIR=$installed/lib/pkgconfig bash -c "$line")
+same "the forwarder has another usage" "usage: forwarder TABLE IN.pcap OUT.pcap" "$("$work/forwarder" --help | head -n 1)"
 
 ### uninstall: nothing is left but what others put there
 
