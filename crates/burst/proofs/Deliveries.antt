@@ -1,12 +1,12 @@
 -- A trip may be made of bursts: with room for all at each stop, what comes of each packet is what a single trip makes of it.
-use mathlib.Core.Path.{_≡_, refl, sym, ap, _∙_}
-use mathlib.Core.List.{List, [], _∷_, _++_}
-use Prim.Native.Nat.{ℕ, _+_, _≤_}
+use mathlib.Core.Path.{_≡_, refl, ap, _∙_}
+use mathlib.Core.List.{List, [], _∷_}
+use Prim.Native.Nat.{ℕ}
 use native.Mathlib.Nat.{le-refl}
 use native.Mathlib.Omega.{arith}
-use lib.ListN.{length, take}
+use lib.ListN.{length}
 use Rattle.rules.specs.Octets.{splice}
-use Rattle.rules.specs.Answer.{Outcome, Sent, Refused, overlay}
+use Rattle.rules.specs.Answer.{Outcome, Sent, overlay}
 use Rattle.rules.specs.Trip.{Stop, trip, stops}
 use Rattle.rules.specs.Demand3.{Matching, over6, over4}
 use Rattle.rules.proofs.Trips.{overlay-sent}

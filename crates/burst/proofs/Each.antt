@@ -7,7 +7,7 @@ use native.Mathlib.Nat.{add-sub-of-le}
 use native.Mathlib.Omega.{arith}
 use lib.ListN.{length, take, drop, getD, length-append, List·getD-append}
 use lib.Seq.{drop-drop, take-append-seam, drop-append-seam, drop-append-add, getD-append-add, getD-drop}
-use borrow.Author.Tests.{lt-ltb, ne-eqb, ltb-true, ltb-false, eqb-true, not-false}
+use borrow.Author.Tests.{lt-ltb, ne-eqb, ltb-true}
 use lib.Dec.{ltb}
 use Rattle.rules.specs.Octets.{Octets, splice}
 use Rattle.rules.specs.Given.{Listed, withIcmp, withoutIcmp}
@@ -19,10 +19,10 @@ use Rattle.rules.proofs.Windows.{octets-drop}
 use Rattle.rules.proofs.Rows.{eq-differs}
 use Rattle.rules.proofs.Given.{listed6, listed4}
 use Rattle.copying.proofs.Laws.{splice-front, splice-length}
-use Rattle.burst.specs.Burst.{most, sum, cut, result, outcomes, results, answers, unfit, Fit, burst, answered}
+use Rattle.burst.specs.Burst.{most, sum, cut, result, outcomes, results, answers, unfit, burst, answered}
 use Rattle.burst.specs.Alone.{packet, size, sizes, outcomeAt, sentBefore, Alone, lengthsIn, Told, Laid}
 use Rattle.burst.specs.Alone.{BadBurst, over32, unequal, fewPlaces}
-use Rattle.burst.proofs.Laws.{cut-length, outcomes-length, answers-length, fit}
+use Rattle.burst.proofs.Laws.{sub-none, sub-sub, cut-length, outcomes-length, answers-length, fit}
 use Rattle.burst.proofs.Laws.{burst-refused, burst-sent, answered-kept, answered-told}
 use Rattle.burst.proofs.Room.{call-within}
 
@@ -32,12 +32,6 @@ size-result : (o : Outcome) → size o ≡ length (result o)
 unfolding result
 size-result (Sent x) = refl
 size-result (Refused r) = refl
-
-sub-none : (a : ℕ) → a - 0 ≡ a
-sub-none a = omega arith
-
-sub-sub : (a b c : ℕ) → a - b - c ≡ a - (b + c)
-sub-sub a b c = omega arith
 
 each : (v : Version) (t ls p : List ℕ) (room i : ℕ) → i < length ls
     → let os = outcomes v t (cut ls p) room in outcomeAt os i ≡ translate v (packet ls p i) t (room - sentBefore os i)

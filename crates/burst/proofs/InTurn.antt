@@ -2,20 +2,16 @@
 use mathlib.Core.Path.{_≡_, refl, sym, ap, _∙_}
 use mathlib.Core.List.{List, [], _∷_}
 use Prim.Native.Nat.{ℕ, _-_}
-use native.Mathlib.Omega.{arith}
-use lib.ListN.{length, drop, length-drop}
+use lib.ListN.{length, length-drop}
 use Rattle.rules.specs.Answer.{Outcome, Sent, Refused}
 use Rattle.rules.specs.Trip.{Stop, call, trip}
-use Rattle.rules.specs.declared.Refusal.{Refusal}
 use Rattle.rules.proofs.Trips.{trip-outcome}
 use Rattle.burst.specs.Burst.{most, cut, result, outcomes, results, Fit}
 use Rattle.burst.specs.BurstTrip.{sentOn, lengthsOf, arrived, withLater, BurstTrip, outcomesAt, burstTrip}
 use Rattle.burst.specs.BurstTrip.{behind, goneBy, unused, inTurn}
+use Rattle.burst.proofs.Laws.{sub-none}
 use Rattle.burst.proofs.Passing.{cut-sent, trip-refused}
 use Rattle.burst.proofs.Deliveries.{burst-step, next-fit}
-
-sub-none : (a : ℕ) → a - 0 ≡ a
-sub-none a = omega arith
 
 -- the outcomes at one stop, then single trips in turn from there on
 in-turn-step : (s : Stop) (ss : List Stop) (ps : List (List ℕ))

@@ -50,17 +50,17 @@ unfolding answers
 answers-snoc [] o = refl
 answers-snoc (a ∷ os) o = ap (λ (l : List ℕ). packed a ∷ l) (answers-snoc os o)
 
-sub-none : (a : ℕ) → a ≡ a - 0
+pub sub-none : (a : ℕ) → a - 0 ≡ a
 sub-none a = omega arith
 
-sub-sub : (a b c : ℕ) → a - b - c ≡ a - (b + c)
+pub sub-sub : (a b c : ℕ) → a - b - c ≡ a - (b + c)
 sub-sub a b c = omega arith
 
 -- the room then left is what all results before it leave
 pub outcomes-snoc : (v : Version) (t : List ℕ) (ps : List (List ℕ)) (p : List ℕ) (room : ℕ)
     → outcomes v t (ps ++ p ∷ []) room ≡ outcomes v t ps room ++ translate v p t (room - length (results (outcomes v t ps room))) ∷ []
 unfolding outcomes results
-outcomes-snoc v t [] p room = ap (λ (k : ℕ). translate v p t k ∷ []) (sub-none room)
+outcomes-snoc v t [] p room = ap (λ (k : ℕ). translate v p t k ∷ []) (sym (sub-none room))
 outcomes-snoc v t (q ∷ ps) p room =
     let o : Outcome = translate v q t room in
     let left : ℕ = room - length (result o) in

@@ -1,13 +1,13 @@
 -- A call with another room: what is sent with some room is sent with any that is as long as the packet, and what is refused is refused with
 -- less.
-use mathlib.Core.Path.{_≡_, refl, sym, ap, _∙_}
-use mathlib.Core.Bool.{Bool, true, false, cond}
-use mathlib.Core.List.{List, [], _∷_}
+use mathlib.Core.Path.{_≡_, refl, sym, _∙_}
+use mathlib.Core.Bool.{Bool, true, false}
+use mathlib.Core.List.{List}
 use Prim.Native.Nat.{ℕ, _≤_, _<_}
 use native.Mathlib.Omega.{arith}
 use lib.Dec.{ltb}
 use lib.ListN.{length}
-use borrow.Author.Tests.{le-ltb, lt-ltb, ltb-true, ltb-false}
+use borrow.Author.Tests.{ltb-true, ltb-false}
 use Rattle.rules.specs.Answer.{Outcome, Sent, Refused, settle}
 use Rattle.rules.specs.Trip.{Version, v4, v6, translate}
 use Rattle.rules.specs.declared.Refusal.{Refusal}

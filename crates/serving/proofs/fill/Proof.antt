@@ -2,13 +2,12 @@ use Rattle.rules.specs.Octets.{splice}
 use Rattle.copying.proofs.Laws.{chain, splice-nil}
 use Rattle.serving.proofs.Loop.{set-splice}
 use mathlib.Core.Path.{_≡_, refl, sym, ap, _∙_}
-use mathlib.Core.List.{List, [], _∷_, _++_}
-use Prim.Native.Nat.{ℕ, suc, _+_, _-_, _≤_, _<_}
+use mathlib.Core.List.{List, [], _∷_}
+use Prim.Native.Nat.{ℕ, suc, _-_, _≤_, _<_}
 use native.Mathlib.Nat.{zero-add}
 use native.Mathlib.Omega.{arith}
 use native.Mathlib.Numerals.{add-one}
 use lib.ListN.{length, replicate, set, length-set, length-replicate, replicate-append-replicate}
-use denote.Ref.{now}
 use borrow.Author.Needs.{needs}
 use Rattle.serving.proofs.fill.Statement.{statement}
 use Rattle.serving.proofs.fill.Tie as tie

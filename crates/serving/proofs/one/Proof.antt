@@ -1,5 +1,4 @@
 use Rattle.copying.proofs.Laws.{tail-all}
-use Rattle.serving.specs.Serving.{versionOf, PacksAt}
 use Rattle.serving.proofs.Lent.{lent-packs}
 use lib.ListN.{length-drop}
 use borrow.Author.Needs.{needs}

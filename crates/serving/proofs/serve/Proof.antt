@@ -1,7 +1,7 @@
 use Rattle.serving.specs.Serving.{versionOf, PacksAt}
 use Rattle.serving.proofs.Loop.{Serving, serving-start, serving-next, serving-end, place-next}
 use Rattle.rules.specs.Trip.{translate}
-use mathlib.Core.Path.{_≡_, ap, _∙_}
+use mathlib.Core.Path.{_≡_, _∙_}
 use mathlib.Core.List.{List}
 use Prim.Native.Nat.{ℕ, _+_, _-_}
 use native.Mathlib.Nat.{add-sub-cancel-left}

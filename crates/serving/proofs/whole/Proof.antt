@@ -4,7 +4,6 @@ use Rattle.serving.proofs.Wholes.{packed-named, whole-refused, whole-un
 use Rattle.rules.specs.Answer.{plain}
 use native.Mathlib.Omega.{arith}
 use denote.Ref.{now}
-use lib.ListN.{length}
 use mathlib.Core.Path.{sym, _∙_}
 use borrow.Author.Needs.{needs}
 use Rattle.serving.proofs.whole.Statement.{statement}
