@@ -1,5 +1,5 @@
--- A burst said a second time, packet by packet: which octets packet i is, with how much room it is called, and where its answer and its
--- result lie. Nothing here goes through the list from its front.
+-- A burst said a second time, by the number of a packet: which octets packet i is, with how much room it is called, and where its answer
+-- and its result lie.
 use mathlib.Core.Path.{_≡_}
 use mathlib.Core.List.{List, [], _∷_}
 use Prim.Native.Nat.{ℕ, _-_, _/_, _≤_, _<_}
