@@ -1,17 +1,18 @@
 -- Laws of `under` and `clear` for octets in two parts: which part decides.
 use mathlib.Core.Path.{_≡_, refl, ap, sym, _∙_}
-use mathlib.Core.Bool.{Bool, true, false}
+use mathlib.Core.Bool.{Bool, true, false, _&&_}
 use mathlib.Core.List.{List}
 use Prim.Native.Nat.{ℕ, _+_, _*_, _-_, _^_, _/_, _%_, _<_, _≤_}
 use native.Mathlib.Nat.{add-zero, zero-add, zero-mul, mul-assoc, mul-mod-left, mul-add-div-right, mul-add-mod-self-right, mod-eq-of-lt}
-use native.Mathlib.Nat.{div-eq-of-lt, zero-div}
+use native.Mathlib.Nat.{div-one, zero-div}
 use native.Mathlib.Omega.{arith}
+use native.Mathlib.Decide.{ℕ-discrete}
 use borrow.Author.Tests.{eqb-true, eqb-false, eq-eqb, ne-eqb}
 use lib.Dec.{eqb}
 use lib.Pow.{pow-add, pow-pos, shr-shr, shr-lt, shl-shr, split, mod-pow-add, high, low}
-use Rattle.rules.specs.Octets.{number}
+use Rattle.rules.specs.Octets.{octet, Octets, number}
 use Rattle.rules.specs.Prefix.{firstBits, under, clear}
-use Rattle.numbers.proofs.Words.{number-parts}
+use Rattle.numbers.proofs.Words.{number-parts, number-small}
 
 -- two tests that hold together are the same
 pub eqb-iff : (a b c d : ℕ) → (a ≡ b → c ≡ d) → (c ≡ d → a ≡ b) → eqb a b ≡ eqb c d
@@ -45,11 +46,6 @@ module _ (s : List ℕ) (n m b : ℕ) where
       ∙ rw (pow-add 2 (8 * m - k) k, ← mul-assoc (number s 0 n) (2 ^ (8 * m - k)) (2 ^ k))
       (mul-add-div-right (pow-pos k) (number s 0 n * 2 ^ (8 * m - k)) (number s n m)))
 
--- under a prefix of no bits lies everything
-pub under-none : (a p : List ℕ) (w : ℕ) → number a 0 w < 2 ^ (8 * w) → number p 0 w < 2 ^ (8 * w) → under w a p 0 ≡ true
-unfolding under firstBits
-under-none a p w ha hp = let e : 8 * w - 0 ≡ 8 * w = omega arith in rw (e, div-eq-of-lt ha, div-eq-of-lt hp) refl
-
 module _ (a p : List ℕ) (n m b : ℕ) (ha : number a n m < 2 ^ (8 * m)) (hp : number p n m < 2 ^ (8 * m)) where
   -- within the first n octets the others do not count
   pub under-front : b ≤ 8 * n → under (n + m) a p b ≡ under n a p b
@@ -76,6 +72,94 @@ module _ (a p : List ℕ) (n m b : ℕ) (ha : number a n m < 2 ^ (8 * m)) (hp : 
       rw (bits-back a n m b l, bits-back p n m b l)
       (ne-eqb _ _ (λ q. d (sym (high (number a 0 n) (8 * m - k) la) ∙ ap (λ (x : ℕ). x / 2 ^ (8 * m - k)) q
       ∙ high (number p 0 n) (8 * m - k) lp)))
+
+-- WHOLE OCTETS, THEN THE PART OF ONE
+
+pub number-one : (s : List ℕ) (i : ℕ) → number s i 1 ≡ octet s i
+unfolding number
+number-one s i = rw add-zero (omega arith)
+
+-- i octets that are the same, and m more
+pub same-more : (a b : List ℕ) (i m : ℕ) → number a 0 i ≡ number b 0 i → number a i m ≡ number b i m
+    → number a 0 (i + m) ≡ number b 0 (i + m)
+same-more a b i m e h = rw (parts a i m 0, parts b i m 0, e, h) refl
+
+-- the m octets behind the first i, of all
+within : (s : List ℕ) → Octets s → (i m r : ℕ) → number s 0 (i + m + r) / 2 ^ (8 * r) % 2 ^ (8 * m) ≡ number s i m
+within s o i m r = rw (parts s (i + m) r 0, high _ _ (number-small s o (i + m) r), parts s i m 0) (low _ _ (number-small s o i m))
+
+-- where m octets among the first n are not the same, the n are not
+pub some-differ : (a b : List ℕ) → Octets a → Octets b → (i m n : ℕ) → i + m ≤ n → (number a i m ≡ number b i m → ⊥)
+    → eqb (number a 0 n) (number b 0 n) ≡ false
+some-differ a b oa ob i m n l d =
+    let r : ℕ = n - (i + m) in
+    let e : n ≡ i + m + r = omega arith in
+    rw e
+    (ne-eqb (number a 0 (i + m + r)) (number b 0 (i + m + r))
+    (λ q. d (sym (within a oa i m r) ∙ ap (λ (x : ℕ). x / 2 ^ (8 * r) % 2 ^ (8 * m)) q ∙ within b ob i m r)))
+
+-- of more bits than there are, all
+pub under-past : (a p : List ℕ) (w b c : ℕ) → c ≡ b - (b - 8 * w) → under w a p c ≡ under w a p b
+unfolding under firstBits
+under-past a p w b c h = let e : 8 * w - c ≡ 8 * w - b = omega arith in rw e refl
+
+module _ (a p : List ℕ) (oa : Octets a) (op : Octets p) (w b : ℕ) where
+  -- the first k octets, where the prefix is no longer
+  pub under-octets : (k : ℕ) → b ≡ 8 * k → k ≤ w → under w a p b ≡ eqb (number a 0 k) (number p 0 k)
+  unfolding under firstBits
+  under-octets k e l =
+      let m : ℕ = w - k in
+      let width : w ≡ k + m = omega arith in
+      let none : 8 * k - b ≡ 0 = omega arith in
+      ap (λ (n : ℕ). under n a p b) width
+      ∙ under-front a p k m b (number-small a oa k m) (number-small p op k m) (omega arith)
+      ∙ rw (none, div-one, div-one) refl
+
+  -- the first k octets, and the first r bits of the one behind them
+  pub under-part : (k r : ℕ) → b ≡ 8 * k + r → r < 8 → k < w
+      → under w a p b ≡ eqb (number a 0 k) (number p 0 k) && eqb (octet a k / 2 ^ (8 - r)) (octet p k / 2 ^ (8 - r))
+  under-part k r e lr lk =
+      ap (λ (n : ℕ). under n a p b) width
+      ∙ under-front a p (k + 1) m b (number-small a oa (k + 1) m) (number-small p op (k + 1) m) (omega arith)
+      ∙ pick (ℕ-discrete (number a 0 k) (number p 0 k))
+    where
+      m : ℕ
+      m = w - (k + 1)
+
+      width : w ≡ k + 1 + m
+      width = omega arith
+
+      rest : 8 * (k + 1) - b ≡ 8 - r
+      rest = omega arith
+
+      pick : Dec (number a 0 k ≡ number p 0 k)
+          → under (k + 1) a p b ≡ eqb (number a 0 k) (number p 0 k) && eqb (octet a k / 2 ^ (8 - r)) (octet p k / 2 ^ (8 - r))
+      pick (yes q) =
+          rw (
+            under-same a p k 1 b (number-small a oa k 1) (number-small p op k 1) (omega arith) q,
+            eq-eqb _ _ q,
+            number-one a k,
+            number-one p k,
+            rest,
+          ) refl
+      pick (no d) = rw (under-differ a p k 1 b (number-small a oa k 1) (number-small p op k 1) (omega arith) d, ne-eqb _ _ d) refl
+
+  -- What `lies_under` tells, by the octets that it looks at: the first n, and octets i and j.
+  pub told-differ : (n : ℕ) → eqb (number a 0 n) (number p 0 n) ≡ false → 8 * n ≤ b → n ≤ w → false ≡ under w a p b
+  told-differ n h lb lw =
+      let m : ℕ = w - n in
+      let width : w ≡ n + m = omega arith in
+      sym (ap (λ (x : ℕ). under x a p b) width
+      ∙ under-differ a p n m b (number-small a oa n m) (number-small p op n m) lb (eqb-false _ _ h))
+
+  pub told-whole : (n : ℕ) → eqb (number a 0 n) (number p 0 n) ≡ true → b ≡ 8 * n → n ≤ w → true ≡ under w a p b
+  told-whole n h e l = sym (under-octets n e l ∙ h)
+
+  pub told-part : (n i j rest : ℕ) → eqb (number a 0 n) (number p 0 n) ≡ true → i ≡ n → j ≡ n → b + rest ≡ 8 * (n + 1) → 0 < rest
+      → rest ≤ 8 → n < w → eqb (octet a i / 2 ^ rest) (octet p j / 2 ^ rest) ≡ under w a p b
+  told-part n i j rest h ei ej eb lo hi l =
+      let r : 8 - (8 - rest) ≡ rest = omega arith in
+      rw (ei, ej, under-part n (8 - rest) (omega arith) (omega arith) l, h, r) refl
 
 -- a word whose last k bits are 0 is what two shifts make of it
 pub shifted : (x k : ℕ) → x < 2 ^ 64 → eqb ((x / 2 ^ k * 2 ^ k) % 2 ^ 64) x ≡ eqb (x % 2 ^ k) 0

@@ -1,10 +1,12 @@
 // Whether an address lies under a prefix, and whether the bits past a prefix are 0. Any number of bits is allowed: past those of an
 // address nothing changes.
 ghost use mathlib.Core.Path.{_≡_};
-ghost use Prim.Native.Nat.{_+_, _-_, _*_, _^_, _%_, _≤_, _<_};
+ghost use Prim.Native.Nat.{ℕ, _+_, _-_, _*_, _^_, _%_, _≤_, _<_};
 ghost use lib.Dec.{eqb};
 ghost use lib.ListN.{length};
+ghost use Rattle.rules.specs.Octets.{number};
 ghost use Rattle.rules.specs.Prefix.{under, clear};
+ghost use Rattle.prefix.specs.Lying.{Lying};
 
 const IPV4_BITS: usize = 32;
 
@@ -12,25 +14,30 @@ const IPV6_BITS: usize = 128;
 
 const WORD_BITS: usize = 64;
 
-// An IPv6 address: the second word is looked at only where the first does not decide.
+// Whole octets first, then the part of one that is left. 2001:db8:b:1::/62: octets 0 to 6 are the same, and the first 6 bits of octet 7.
+// /64: octets 0 to 7, and no part is left. /128: octets 0 to 15. /0: none, so every address lies under it.
+fn lies_under(address: &[u8], prefix: &[u8], bits: usize) -> bool
+    requires { ⌜ (bits ≤ 8 * length (now address)) × (bits ≤ 8 * length (now prefix)) ⌝ }
+    ensures { λ r. ⌜ ((w : ℕ) → bits ≤ 8 * w → r ≡ under w (now (address .entry)) (now (prefix .entry)) bits) ⌝ }
+{
+    let whole = bits / 8;
+    if !same_octets(address, prefix, whole) {
+        return false;
+    }
+    let part = bits % 8;
+    if part == 0 {
+        return true;
+    }
+    let rest = 8 - part;
+    address[whole] >> rest == prefix[whole] >> rest
+}
+
+// An IPv6 address.
 pub fn under16(address: &[u8], prefix: &[u8], bits: usize) -> bool
     requires { ⌜ (16 ≤ length (now address)) × (16 ≤ length (now prefix)) ⌝ }
     ensures { λ r. ⌜ r ≡ under 16 (now (address .entry)) (now (prefix .entry)) bits ⌝ }
 {
-    let a = numbers::eight(address, 0);
-    let p = numbers::eight(prefix, 0);
-    if bits <= WORD_BITS {
-        if bits == 0 {
-            return true;
-        }
-        let rest = WORD_BITS - bits;
-        return a >> rest == p >> rest;
-    }
-    if a != p {
-        return false;
-    }
-    let rest = octets::saturating_sub(IPV6_BITS, bits);
-    numbers::eight(address, 8) >> rest == numbers::eight(prefix, 8) >> rest
+    lies_under(address, prefix, smaller(bits, IPV6_BITS))
 }
 
 // An IPv4 address.
@@ -38,8 +45,62 @@ pub fn under4(address: &[u8], prefix: &[u8], bits: usize) -> bool
     requires { ⌜ (4 ≤ length (now address)) × (4 ≤ length (now prefix)) ⌝ }
     ensures { λ r. ⌜ r ≡ under 4 (now (address .entry)) (now (prefix .entry)) bits ⌝ }
 {
-    let rest = octets::saturating_sub(IPV4_BITS, bits);
-    numbers::four(address, 0) >> rest == numbers::four(prefix, 0) >> rest
+    lies_under(address, prefix, smaller(bits, IPV4_BITS))
+}
+
+// The smaller of two numbers.
+fn smaller(x: usize, y: usize) -> usize
+    ensures { λ r. ⌜ r ≡ x - (x - y) ⌝ }
+{
+    if x < y {
+        return x;
+    }
+    y
+}
+
+// The first n octets are the same: eight at a time while eight are left, then four, then one by one.
+fn same_octets(a: &[u8], b: &[u8], n: usize) -> bool
+    requires { ⌜ (n ≤ length (now a)) × (n ≤ length (now b)) ⌝ }
+    ensures { λ r. ⌜ r ≡ eqb (number (now (a .entry)) 0 n) (number (now (b .entry)) 0 n) ⌝ }
+{
+    let mut i = 0;
+    while i + 8 <= n {
+        if eight_octets(a, i) != eight_octets(b, i) {
+            return false;
+        }
+        i += 8;
+    }
+    if i + 4 <= n {
+        if four_octets(a, i) != four_octets(b, i) {
+            return false;
+        }
+        i += 4;
+    }
+    while i < n {
+        if a[i] != b[i] {
+            return false;
+        }
+        i += 1;
+    }
+    true
+}
+
+// Four octets, and eight, as they lie: each compiles to one load. They serve to tell whether octets are the same.
+fn four_octets(s: &[u8], at: usize) -> usize
+    requires { ⌜ at + 4 ≤ length (now s) ⌝ }
+    ensures { λ r. ⌜ Lying (now (s .entry)) at 4 r ⌝ }
+{
+    octets::wide(s[at])
+        + octets::wide(s[at + 1]) * 256
+        + octets::wide(s[at + 2]) * 65536
+        + octets::wide(s[at + 3]) * 16777216
+}
+
+fn eight_octets(s: &[u8], at: usize) -> usize
+    requires { ⌜ at + 8 ≤ length (now s) ⌝ }
+    ensures { λ r. ⌜ Lying (now (s .entry)) at 8 r ⌝ }
+{
+    four_octets(s, at) + four_octets(s, at + 4) * 4294967296
 }
 
 // The last `rest` bits of a word are 0.
