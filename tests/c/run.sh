@@ -1,6 +1,6 @@
 #!/usr/bin/env bash
-# run.sh LIB: kawsarpa.h by itself, the symbols of the archive, and calls.c, bursts.c, faults.c, losses.c, matches.c, sorted.c, largest.c
-# and apart.c linked with it as C99, as C++17 and beside the sanitizers; and that NDEBUG leaves no assertion in calls and bursts.
+# run.sh LIB: kawsarpa.h by itself, the symbols of the archive, and calls.c, bursts.c, faults.c, losses.c, matches.c, prefixes.c, sorted.c,
+# largest.c and apart.c linked with it as C99, as C++17 and beside the sanitizers; and that NDEBUG leaves no assertion in calls and bursts.
 set -eu
 
 if [ $# -ne 1 ]; then
@@ -22,7 +22,7 @@ fail() {
 linked() { # WHAT COMPILER...
     local what=$1 program
     shift
-    for program in calls bursts faults losses matches sorted largest apart; do
+    for program in calls bursts faults losses matches prefixes sorted largest apart; do
         "$@" -O2 -g -Werror -Wall -Wextra -Wpedantic -Wconversion -I "$include" -I "$work" -o "$work/$program" "$here/$program.c" \
             -x none "$lib" || fail "$program.c was not built: $what"
         if ! "$work/$program" >"$work/output" 2>&1; then

@@ -1,4 +1,4 @@
--- Octets as they lie: one number of which the first is the lowest. It serves to tell whether octets are the same, and is no number of a packet.
+-- Octets as they lie, in one number of which the first octet is the lowest. It only serves to tell whether octets are the same.
 use mathlib.Core.Path.{_≡_}
 use mathlib.Core.List.{List}
 use Prim.Native.Nat.{ℕ, zero, suc, _+_, _*_, _^_, _<_}

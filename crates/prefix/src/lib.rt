@@ -14,8 +14,9 @@ const IPV6_BITS: usize = 128;
 
 const WORD_BITS: usize = 64;
 
-// Whole octets first, then the part of one that is left. 2001:db8:b:1::/62: octets 0 to 6 are the same, and the first 6 bits of octet 7.
-// /64: octets 0 to 7, and no part is left. /128: octets 0 to 15. /0: none, so every address lies under it.
+// The first `bits` bits of the address are the prefix's, whatever it holds past them: whole octets first, then the first `part` bits of the
+// next octet, whose other bits are shifted out. /62: octets 0 to 6, then the first 6 bits of octet 7, so that 2001:db8:b:3:: lies under
+// 2001:db8:b:1::/62 and 2001:db8:b:4:: does not. /64: octets 0 to 7 alone. /128: octets 0 to 15. /0: none, and every address lies under it.
 fn lies_under(address: &[u8], prefix: &[u8], bits: usize) -> bool
     requires { ⌜ (bits ≤ 8 * length (now address)) × (bits ≤ 8 * length (now prefix)) ⌝ }
     ensures { λ r. ⌜ ((w : ℕ) → bits ≤ 8 * w → r ≡ under w (now (address .entry)) (now (prefix .entry)) bits) ⌝ }
@@ -32,7 +33,7 @@ fn lies_under(address: &[u8], prefix: &[u8], bits: usize) -> bool
     address[whole] >> rest == prefix[whole] >> rest
 }
 
-// An IPv6 address.
+// An IPv6 address. More than 128 bits count as 128.
 pub fn under16(address: &[u8], prefix: &[u8], bits: usize) -> bool
     requires { ⌜ (16 ≤ length (now address)) × (16 ≤ length (now prefix)) ⌝ }
     ensures { λ r. ⌜ r ≡ under 16 (now (address .entry)) (now (prefix .entry)) bits ⌝ }
@@ -40,7 +41,7 @@ pub fn under16(address: &[u8], prefix: &[u8], bits: usize) -> bool
     lies_under(address, prefix, smaller(bits, IPV6_BITS))
 }
 
-// An IPv4 address.
+// An IPv4 address. More than 32 bits count as 32.
 pub fn under4(address: &[u8], prefix: &[u8], bits: usize) -> bool
     requires { ⌜ (4 ≤ length (now address)) × (4 ≤ length (now prefix)) ⌝ }
     ensures { λ r. ⌜ r ≡ under 4 (now (address .entry)) (now (prefix .entry)) bits ⌝ }
@@ -58,7 +59,7 @@ fn smaller(x: usize, y: usize) -> usize
     y
 }
 
-// The first n octets are the same: eight at a time while eight are left, then four, then one by one.
+// The first n octets are the same: eight at a time while eight are left, then four if four are, then one by one.
 fn same_octets(a: &[u8], b: &[u8], n: usize) -> bool
     requires { ⌜ (n ≤ length (now a)) × (n ≤ length (now b)) ⌝ }
     ensures { λ r. ⌜ r ≡ eqb (number (now (a .entry)) 0 n) (number (now (b .entry)) 0 n) ⌝ }
@@ -85,7 +86,8 @@ fn same_octets(a: &[u8], b: &[u8], n: usize) -> bool
     true
 }
 
-// Four octets, and eight, as they lie: each compiles to one load. They serve to tell whether octets are the same.
+// Four octets in one number, and eight, as they lie: the first is the lowest. It only serves to tell whether octets are the same. Each
+// compiles to one load.
 fn four_octets(s: &[u8], at: usize) -> usize
     requires { ⌜ at + 4 ≤ length (now s) ⌝ }
     ensures { λ r. ⌜ Lying (now (s .entry)) at 4 r ⌝ }

@@ -7,7 +7,9 @@ use Rattle.prefix.proofs.four_octets.Tie as tie
 
 returns : tie.Need-returns
 unfolding lying
-returns c = record { value = rw (add-zero (c .before .before .before .before .before .before .before .before .before .args .at)) (omega arith); small = omega arith }
+returns c =
+    let at = c .before .before .before .before .before .before .before .before .before .args .at in
+    record { value = rw (add-zero at) (omega arith); small = omega arith }
 
 pub four-octets-spec : {M : Type 1} → statement M
 four-octets-spec =
