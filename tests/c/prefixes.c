@@ -1,6 +1,7 @@
 /*
- * Whether an address lies under a prefix (order 4), at every length of a prefix: an address with its bits, and with each one bit changed.
- * Of one entry or rule the call answers "no match" exactly where that bit is one of the prefix's. Prints a line for each length.
+ * Whether an address lies under a prefix (order 4), at every length of a prefix: an address with its bits, the same with each one bit
+ * changed, and with each two octets exchanged. Of one entry or rule the call answers "no match" exactly where a bit of the prefix differs,
+ * which is told here bit by bit. Prints a line for each length.
  */
 #include "checks.h"
 #include "kawsarpa.h"
@@ -20,44 +21,58 @@ struct one_rule {
     struct kawsarpa_rule rule;
 };
 
-/* No two octets are the same, and `flip` makes of every bit the other. */
-static uint8_t pattern(size_t i, uint8_t flip)
-{
-    return (uint8_t)((0x35 + 29 * i) ^ flip);
-}
-
-/* The first `bits` bits of an address; the others 0. */
-static void mask(uint8_t *octets, size_t count, size_t bits)
+/* An address of `width` octets of which no two are the same; `flip` makes of every bit the other. */
+static void set_address(uint8_t *address, size_t width, uint8_t flip)
 {
     size_t i;
-    for (i = bits; i < 8 * count; i++)
-        octets[i / 8] = (uint8_t)(octets[i / 8] & ~(0x80 >> i % 8));
+    for (i = 0; i < width; i++)
+        address[i] = (uint8_t)((0x35 + 29 * i) ^ flip);
 }
 
-/* What is answered to the address with bit `changed` the other way; to the address itself where there is no such bit. */
-static int matches_ipv6(const struct one_entry *table, uint8_t flip, size_t changed)
+static void change_bit(uint8_t *address, size_t bit)
+{
+    address[bit / 8] = (uint8_t)(address[bit / 8] ^ 0x80 >> bit % 8);
+}
+
+static int bit_of(const uint8_t *address, size_t bit)
+{
+    return address[bit / 8] >> (7 - bit % 8) & 1;
+}
+
+/* The prefix of an address: past its bits there are zeros. */
+static void set_prefix(uint8_t *prefix, const uint8_t *address, size_t width, size_t bits)
+{
+    size_t i;
+    memcpy(prefix, address, width);
+    for (i = bits; i < 8 * width; i++)
+        if (bit_of(prefix, i))
+            change_bit(prefix, i);
+}
+
+static int lies_under(const uint8_t *address, const uint8_t *prefix, size_t bits)
+{
+    size_t i;
+    for (i = 0; i < bits; i++)
+        if (bit_of(address, i) != bit_of(prefix, i))
+            return 0;
+    return 1;
+}
+
+static int matches_ipv6(const uint8_t *table, size_t table_len, const uint8_t *address)
 {
     uint8_t packet[sizeof nothing_for_d], out[64];
-    size_t i;
     memcpy(packet, nothing_for_d, sizeof packet);
-    for (i = 0; i < 16; i++)
-        packet[24 + i] = pattern(i, flip);
-    if (changed < 128)
-        packet[24 + changed / 8] = (uint8_t)(packet[24 + changed / 8] ^ 0x80 >> changed % 8);
-    return kawsarpa_answer_number(kawsarpa_call_ipv6(packet, sizeof packet, (const uint8_t *)table, sizeof *table, out, sizeof out)) !=
-           KAWSARPA_ANSWER_NO_MATCH;
+    memcpy(packet + 24, address, 16);
+    return kawsarpa_answer_number(kawsarpa_call_ipv6(packet, sizeof packet, table, table_len, out, sizeof out)) != KAWSARPA_ANSWER_NO_MATCH;
 }
 
-static int matches_ipv4(const struct one_rule *table, uint8_t flip, size_t changed)
+static int matches_ipv4(const uint8_t *table, size_t table_len, const uint8_t *address)
 {
     uint8_t packet[sizeof to_d4], out[256];
     uint32_t sum = 0;
     size_t i;
     memcpy(packet, to_d4, sizeof packet);
-    for (i = 0; i < 4; i++)
-        packet[16 + i] = pattern(i, flip);
-    if (changed < 32)
-        packet[16 + changed / 8] = (uint8_t)(packet[16 + changed / 8] ^ 0x80 >> changed % 8);
+    memcpy(packet + 16, address, 4);
     for (i = 0; i < 20; i += 2)
         if (i != 10)
             sum += (uint32_t)packet[i] << 8 | packet[i + 1];
@@ -65,48 +80,60 @@ static int matches_ipv4(const struct one_rule *table, uint8_t flip, size_t chang
     sum = 0xFFFF - ((sum & 0xFFFF) + (sum >> 16));
     packet[10] = (uint8_t)(sum >> 8);
     packet[11] = (uint8_t)(sum & 0xFF);
-    return kawsarpa_answer_number(kawsarpa_call_ipv4(packet, sizeof packet, (const uint8_t *)table, sizeof *table, out, sizeof out)) !=
-           KAWSARPA_ANSWER_NO_MATCH;
+    return kawsarpa_answer_number(kawsarpa_call_ipv4(packet, sizeof packet, table, table_len, out, sizeof out)) != KAWSARPA_ANSWER_NO_MATCH;
+}
+
+typedef int matches(const uint8_t *table, size_t table_len, const uint8_t *address);
+
+/* What is said of a sound table whose one record has the prefix of this address. */
+static int told_rightly(matches *matched, const uint8_t *table, size_t table_len, const uint8_t *address, size_t width, size_t bits)
+{
+    uint8_t other[16];
+    size_t i, j;
+    int right = kawsarpa_call_table_fault(table, table_len) == 0 && matched(table, table_len, address);
+    for (i = 0; i < 8 * width; i++) {
+        memcpy(other, address, width);
+        change_bit(other, i);
+        right &= matched(table, table_len, other) == lies_under(other, address, bits);
+    }
+    for (i = 0; i < width; i++)
+        for (j = 0; j < i; j++) {
+            memcpy(other, address, width);
+            other[i] = address[j];
+            other[j] = address[i];
+            right &= matched(table, table_len, other) == lies_under(other, address, bits);
+        }
+    return right;
 }
 
 static void check_ipv6(size_t bits, uint8_t flip)
 {
     struct one_entry table;
+    uint8_t address[16];
     char subject[32];
-    size_t changed, i;
-    int holds = 1;
     memset(&table, 0, sizeof table);
     kawsarpa_table_header_set(&table.header, 1, 0, 0);
     table.entry = build().entries[WAYPOINT];
     table.entry.prefix_length = (uint8_t)bits;
-    for (i = 0; i < 16; i++)
-        table.entry.prefix[i] = pattern(i, flip);
-    mask(table.entry.prefix, 16, bits);
-    holds &= kawsarpa_call_table_fault((const uint8_t *)&table, sizeof table) == 0;
-    for (changed = 0; changed <= 128; changed++)
-        holds &= matches_ipv6(&table, flip, changed) == (changed >= bits);
+    set_address(address, 16, flip);
+    set_prefix(table.entry.prefix, address, 16, bits);
     sprintf(subject, "IPv6, /%u", (unsigned int)bits);
-    check(holds, subject, "under it exactly without a change in its bits");
+    check(told_rightly(matches_ipv6, (const uint8_t *)&table, sizeof table, address, 16, bits), subject, "what lies under it");
 }
 
 static void check_ipv4(size_t bits, uint8_t flip)
 {
     struct one_rule table;
+    uint8_t address[4];
     char subject[32];
-    size_t changed, i;
-    int holds = 1;
     memset(&table, 0, sizeof table);
     kawsarpa_table_header_set(&table.header, 0, 1, 0);
     table.rule = build().rules[0];
     table.rule.prefix_length = (uint8_t)bits;
-    for (i = 0; i < 4; i++)
-        table.rule.prefix[i] = pattern(i, flip);
-    mask(table.rule.prefix, 4, bits);
-    holds &= kawsarpa_call_table_fault((const uint8_t *)&table, sizeof table) == 0;
-    for (changed = 0; changed <= 32; changed++)
-        holds &= matches_ipv4(&table, flip, changed) == (changed >= bits);
+    set_address(address, 4, flip);
+    set_prefix(table.rule.prefix, address, 4, bits);
     sprintf(subject, "IPv4, /%u", (unsigned int)bits);
-    check(holds, subject, "under it exactly without a change in its bits");
+    check(told_rightly(matches_ipv4, (const uint8_t *)&table, sizeof table, address, 4, bits), subject, "what lies under it");
 }
 
 int main(void)
