@@ -98,6 +98,13 @@ some-differ a b oa ob i m n l d =
     (ne-eqb (number a 0 (i + m + r)) (number b 0 (i + m + r))
     (λ q. d (sym (within a oa i m r) ∙ ap (λ (x : ℕ). x / 2 ^ (8 * r) % 2 ^ (8 * m)) q ∙ within b ob i m r)))
 
+-- where one is left of n, it decides
+pub one-left : (a b : List ℕ) (i n : ℕ) → number a 0 i ≡ number b 0 i → n ≡ i + 1
+    → eqb (octet a i) (octet b i) ≡ eqb (number a 0 n) (number b 0 n)
+one-left a b i n e h =
+    rw (h, parts a i 1 0, parts b i 1 0, e, number-one a i, number-one b i)
+    (sym (eqb-add (number b 0 i * 2 ^ (8 * 1)) (octet a i) (octet b i)))
+
 -- of more bits than there are, all
 pub under-past : (a p : List ℕ) (w b c : ℕ) → c ≡ b - (b - 8 * w) → under w a p c ≡ under w a p b
 unfolding under firstBits

@@ -59,7 +59,7 @@ fn smaller(x: usize, y: usize) -> usize
     y
 }
 
-// The first n octets are the same: eight at a time while eight are left, then four if four are, then one by one.
+// The first n octets are the same: eight at a time while eight are left, then four, two and one, where so many are.
 fn same_octets(a: &[u8], b: &[u8], n: usize) -> bool
     requires { ⌜ (n ≤ length (now a)) × (n ≤ length (now b)) ⌝ }
     ensures { λ r. ⌜ r ≡ eqb (number (now (a .entry)) 0 n) (number (now (b .entry)) 0 n) ⌝ }
@@ -77,25 +77,32 @@ fn same_octets(a: &[u8], b: &[u8], n: usize) -> bool
         }
         i += 4;
     }
-    while i < n {
-        if a[i] != b[i] {
+    if i + 2 <= n {
+        if two_octets(a, i) != two_octets(b, i) {
             return false;
         }
-        i += 1;
+        i += 2;
+    }
+    if i < n {
+        return a[i] == b[i];
     }
     true
 }
 
-// Four octets in one number, and eight, as they lie: the first is the lowest. It only serves to tell whether octets are the same. Each
+// Two, four and eight octets in one number as they lie: the first is the lowest. It only serves to tell whether octets are the same. Each
 // compiles to one load.
+fn two_octets(s: &[u8], at: usize) -> usize
+    requires { ⌜ at + 2 ≤ length (now s) ⌝ }
+    ensures { λ r. ⌜ Lying (now (s .entry)) at 2 r ⌝ }
+{
+    octets::wide(s[at]) + octets::wide(s[at + 1]) * 256
+}
+
 fn four_octets(s: &[u8], at: usize) -> usize
     requires { ⌜ at + 4 ≤ length (now s) ⌝ }
     ensures { λ r. ⌜ Lying (now (s .entry)) at 4 r ⌝ }
 {
-    octets::wide(s[at])
-        + octets::wide(s[at + 1]) * 256
-        + octets::wide(s[at + 2]) * 65536
-        + octets::wide(s[at + 3]) * 16777216
+    two_octets(s, at) + two_octets(s, at + 2) * 65536
 }
 
 fn eight_octets(s: &[u8], at: usize) -> usize

@@ -1,33 +1,17 @@
-use native.Mathlib.Nat.{add-zero}
 use native.Mathlib.Omega.{arith}
 use borrow.Author.Needs.{needs}
-use Rattle.prefix.specs.Lying.{lying}
+use Rattle.prefix.proofs.Lying.{lying-parts}
 use Rattle.prefix.proofs.four_octets.Statement.{statement}
 use Rattle.prefix.proofs.four_octets.Tie as tie
 
 returns : tie.Need-returns
-unfolding lying
-returns c =
-    let at = c .before .before .before .before .before .before .before .before .before .args .at in
-    record { value = rw (add-zero at) (omega arith); small = omega arith }
+returns c = record { value = rw (lying-parts _ (c .before .before .before .args .at) 2 2) (omega arith); small = omega arith }
 
 pub four-octets-spec : {M : Type 1} → statement M
 four-octets-spec =
     tie.close
     (tie.spec
-    (λ c. search needs)
     (λ c κs. search needs)
-    (λ c. search needs)
-    (λ c. search needs)
-    (λ c κs. search needs)
-    (λ c. search needs)
-    (λ c. search needs)
-    (λ c. search needs)
-    (λ c. search needs)
-    (λ c κs. search needs)
-    (λ c. search needs)
-    (λ c. search needs)
-    (λ c. search needs)
     (λ c. search needs)
     (λ c κs. search needs)
     (λ c. search needs)
