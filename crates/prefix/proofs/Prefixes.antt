@@ -75,7 +75,7 @@ module _ (a p : List ℕ) (n m b : ℕ) (ha : number a n m < 2 ^ (8 * m)) (hp : 
 
 -- WHOLE OCTETS, THEN THE PART OF ONE
 
-pub number-one : (s : List ℕ) (i : ℕ) → number s i 1 ≡ octet s i
+number-one : (s : List ℕ) (i : ℕ) → number s i 1 ≡ octet s i
 unfolding number
 number-one s i = rw add-zero (omega arith)
 
