@@ -36,7 +36,8 @@ lying-parts s i n (suc m) =
     ) (omega arith)
 
 -- the same as they lie, the same by their number
-pub lying-number : (a b : List ℕ) → Octets a → Octets b → (i n : ℕ) → lying a i n ≡ lying b i n → number a i n ≡ number b i n
+pub lying-number : (a b : List ℕ) → Octets a → Octets b → (i n : ℕ) → lying a i n ≡ lying b i n
+    → number a i n ≡ number b i n
 unfolding lying number
 lying-number a b oa ob i zero e = refl
 lying-number a b oa ob i (suc n) e =
@@ -48,7 +49,8 @@ lying-number a b oa ob i (suc n) e =
     sym (low (octet a (i + n)) (8 * n) la) ∙ ap (λ (x : ℕ). x % 2 ^ (8 * n)) e ∙ low (octet b (i + n)) (8 * n) lb in
     rw (lying-number a b oa ob i n q, p) refl
 
-pub number-lying : (a b : List ℕ) → Octets a → Octets b → (i n : ℕ) → number a i n ≡ number b i n → lying a i n ≡ lying b i n
+pub number-lying : (a b : List ℕ) → Octets a → Octets b → (i n : ℕ) → number a i n ≡ number b i n
+    → lying a i n ≡ lying b i n
 unfolding lying number
 number-lying a b oa ob i zero e = refl
 number-lying a b oa ob i (suc n) e =

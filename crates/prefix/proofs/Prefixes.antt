@@ -162,8 +162,8 @@ module _ (a p : List ℕ) (oa : Octets a) (op : Octets p) (w b : ℕ) where
   pub told-whole : (n : ℕ) → eqb (number a 0 n) (number p 0 n) ≡ true → b ≡ 8 * n → n ≤ w → true ≡ under w a p b
   told-whole n h e l = sym (under-octets n e l ∙ h)
 
-  pub told-part : (n i j rest : ℕ) → eqb (number a 0 n) (number p 0 n) ≡ true → i ≡ n → j ≡ n → b + rest ≡ 8 * (n + 1) → 0 < rest
-      → rest ≤ 8 → n < w → eqb (octet a i / 2 ^ rest) (octet p j / 2 ^ rest) ≡ under w a p b
+  pub told-part : (n i j rest : ℕ) → eqb (number a 0 n) (number p 0 n) ≡ true → i ≡ n → j ≡ n → b + rest ≡ 8 * (n + 1)
+      → 0 < rest → rest ≤ 8 → n < w → eqb (octet a i / 2 ^ rest) (octet p j / 2 ^ rest) ≡ under w a p b
   told-part n i j rest h ei ej eb lo hi l =
       let r : 8 - (8 - rest) ≡ rest = omega arith in
       rw (ei, ej, under-part n (8 - rest) (omega arith) (omega arith) l, h, r) refl
