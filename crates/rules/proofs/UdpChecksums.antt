@@ -2,21 +2,20 @@
 -- ways to say so agree, and a change of one octet is seen.
 use mathlib.Core.Path.{◌≡◌, refl, sym, ap, ◌∙◌}
 use mathlib.Core.Logic.{◌≢◌, ◌⊎◌, inl, inr}
-use mathlib.Core.Bool.{Bool, true, false, cond}
+use mathlib.Core.Bool.{Bool, true, false}
 use mathlib.Core.List.{List, [], ◌∷◌, ◌++◌}
-use Prim.Native.Nat.{ℕ, zero, suc, ◌+◌, ◌-◌, ◌*◌, ◌/◌, ◌%◌, ◌^◌, ◌≤◌, ◌<◌}
+use Prim.Native.Nat.{ℕ, zero, suc, ◌+◌, ◌-◌, ◌*◌, ◌/◌, ◌%◌, ◌≤◌, ◌<◌}
 use native.Mathlib.Omega.{arith}
 use native.Mathlib.Decide.{ℕ_discrete}
 use lib.Dec.{ltb}
 use lib.ListN.{length, length-append}
 use borrow.Author.Tests.{ltb-true, ltb-false, eq-eqb, ne_eqb}
-use Rattle.rules.specs.Octets.{Octets, octet, read16, put16}
+use Rattle.rules.specs.Octets.{Octets, octet, put16}
 use Rattle.rules.specs.Assigned.{udp_protocol}
 use Rattle.rules.specs.Checksum.{ones_sum, word_sum, with_pseudo_header}
 use Rattle.rules.specs.Gtpu as Gtpu
 use Rattle.rules.specs.UdpChecksum.{or_ffff, udp_checksum6, udp_sum6, bad_checksum}
 use Rattle.rules.specs.Gtpu.{udp, gtpu}
-use Rattle.rules.specs.Answer.{differs}
 use Rattle.rules.specs.AddsUp.{words_of, words, total, AddsUp, OneChanged}
 use Rattle.rules.specs.Written.{TrueChecksum}
 use Rattle.rules.proofs.Checksums.{word_sum-append, fold, ones_sum-fold, octets-append, octets-each}
