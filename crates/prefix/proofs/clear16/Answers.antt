@@ -1,8 +1,6 @@
 use mathlib.Core.Path.{refl, sym}
-use Prim.Native.Nat.{ℕ, ◌*◌, ◌^◌, ◌<◌}
 use native.Mathlib.Nat.{mod-eq_of_lt}
 use native.Mathlib.Omega.{arith}
-use Rattle.rules.specs.Octets.{number}
 use Rattle.rules.specs.Prefix.{clear}
 use Rattle.numbers.proofs.Words.{number_small}
 use Rattle.prefix.proofs.Prefixes.{clear_front, clear_back, clear-set}

@@ -1,7 +1,5 @@
 use mathlib.Core.Path.{sym, ◌∙◌}
 use native.Mathlib.Omega.{arith}
-use borrow.Author.Tests.{not-true, not-false}
-use Rattle.rules.specs.Octets.{Octets}
 use Rattle.prefix.proofs.Prefixes.{told_differ, told-whole, told_part}
 use Rattle.prefix.proofs.lies_under.Goals as goal
 

@@ -1,7 +1,6 @@
 use mathlib.Core.Path.{◌≡◌, refl, sym, ◌∙◌}
-use mathlib.Core.Logic.{⊎_elim}
 use mathlib.Core.List.{List}
-use Prim.Native.Nat.{ℕ, ◌+◌, ◌-◌, ◌≤◌, ◌<◌}
+use Prim.Native.Nat.{ℕ, ◌+◌, ◌≤◌, ◌<◌}
 use native.Mathlib.Omega.{arith}
 use borrow.Author.Tests.{eq-eqb}
 use Rattle.rules.specs.Octets.{Octets, number}
@@ -58,9 +57,9 @@ returns-then-two_octets c =
     let ob : Octets c.args.b.now = λ i. (c.type_inv.b i).fits in
     let l = c.loop-i in
     let same : number c.args.a.now 0 c.if-i-n.i ≡ number c.args.b.now 0 c.if-i-n.i = elim c.if-i-n.branch [
-      then-i-n+else-four_octets w ↦ (taken oa ob c.args.n l.i 4 _ _ _ (omega arith) l.invariant.1 (omega arith)
+      | then-i-n+else-four_octets w ↦ (taken oa ob c.args.n l.i 4 _ _ _ (omega arith) l.invariant.1 (omega arith)
           w.four_octets.ensures w.four_octets-then-i-n.ensures w.if-four_octets.false w.i-is).1
-    | else-i-n w ↦ rw w.i-is l.invariant.1
+      | else-i-n w ↦ rw w.i-is l.invariant.1
     ] in
     let i : ℕ = c.if-i-n.i in
     let x = c.two_octets.ensures.value in
@@ -74,14 +73,14 @@ returns-then-i-n-3 c =
     let ob : Octets c.args.b.now = λ i. (c.type_inv.b i).fits in
     let l = c.loop-i in
     let four : Fewer c.args.a.now c.args.b.now c.args.n c.if-i-n.i 4 = elim c.if-i-n.branch [
-      then-i-n+else-four_octets w ↦ taken oa ob c.args.n l.i 4 _ _ _ (omega arith) l.invariant.1 (omega arith)
+      | then-i-n+else-four_octets w ↦ taken oa ob c.args.n l.i 4 _ _ _ (omega arith) l.invariant.1 (omega arith)
           w.four_octets.ensures w.four_octets-then-i-n.ensures w.if-four_octets.false w.i-is
-    | else-i-n w ↦ rw w.i-is (l.invariant.0, l.invariant.1, omega arith)
+      | else-i-n w ↦ rw w.i-is (l.invariant.0, l.invariant.1, omega arith)
     ] in
     let two : Fewer c.args.a.now c.args.b.now c.args.n c.if-i-n-2.i 2 = elim c.if-i-n-2.branch [
-      then-i-n-2+else-two_octets w ↦ taken oa ob c.args.n c.if-i-n.i 2 _ _ _ (omega arith) four.1 (omega arith)
+      | then-i-n-2+else-two_octets w ↦ taken oa ob c.args.n c.if-i-n.i 2 _ _ _ (omega arith) four.1 (omega arith)
           w.two_octets.ensures w.two_octets-then-i-n-2.ensures w.if-two_octets.false w.i-is
-    | else-i-n-2 w ↦ rw w.i-is (four.0, four.1, omega arith)
+      | else-i-n-2 w ↦ rw w.i-is (four.0, four.1, omega arith)
     ] in
     one_left _ _ c.if-i-n-2.i _ two.1 (omega arith)
 
@@ -91,14 +90,14 @@ returns c =
     let ob : Octets c.args.b.now = λ i. (c.type_inv.b i).fits in
     let l = c.loop-i in
     let four : Fewer c.args.a.now c.args.b.now c.args.n c.if-i-n.i 4 = elim c.if-i-n.branch [
-      then-i-n+else-four_octets w ↦ taken oa ob c.args.n l.i 4 _ _ _ (omega arith) l.invariant.1 (omega arith)
+      | then-i-n+else-four_octets w ↦ taken oa ob c.args.n l.i 4 _ _ _ (omega arith) l.invariant.1 (omega arith)
           w.four_octets.ensures w.four_octets-then-i-n.ensures w.if-four_octets.false w.i-is
-    | else-i-n w ↦ rw w.i-is (l.invariant.0, l.invariant.1, omega arith)
+      | else-i-n w ↦ rw w.i-is (l.invariant.0, l.invariant.1, omega arith)
     ] in
     let two : Fewer c.args.a.now c.args.b.now c.args.n c.if-i-n-2.i 2 = elim c.if-i-n-2.branch [
-      then-i-n-2+else-two_octets w ↦ taken oa ob c.args.n c.if-i-n.i 2 _ _ _ (omega arith) four.1 (omega arith)
+      | then-i-n-2+else-two_octets w ↦ taken oa ob c.args.n c.if-i-n.i 2 _ _ _ (omega arith) four.1 (omega arith)
           w.two_octets.ensures w.two_octets-then-i-n-2.ensures w.if-two_octets.false w.i-is
-    | else-i-n-2 w ↦ rw w.i-is (four.0, four.1, omega arith)
+      | else-i-n-2 w ↦ rw w.i-is (four.0, four.1, omega arith)
     ] in
     let e : c.args.n ≡ c.if-i-n-2.i = omega arith in
     rw e (sym (eq-eqb _ _ two.1))

@@ -1,6 +1,6 @@
 use Rattle.srh.proofs.Words.{word_octets_lem}
 use Rattle.rules.proofs.Checksums.{octets-each}
-use mathlib.Core.List.{List, ◌∷◌}
+use mathlib.Core.List.{List, ◌∷◌, []}
 use Prim.Native.Nat.{ℕ}
 use native.Mathlib.Nat.{add-zero}
 use native.Mathlib.Omega.{arith}

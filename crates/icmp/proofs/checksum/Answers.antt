@@ -11,29 +11,27 @@ use Rattle.rules.proofs.Checksums.{word_sum-append, octets-append}
 use Rattle.rules.proofs.UdpChecksums.{sum_with}
 use Rattle.sum.proofs.Parts.{array_octets, both_mod, parts_mod}
 use Rattle.icmp.proofs.Laws.{checksum-is}
-use borrow.Author.Rules.{rules}
-use Rattle.icmp.proofs.checksum.Statement.{statement}
-use Rattle.icmp.proofs.checksum.Tie as tie
+use Rattle.icmp.proofs.checksum.Goals as goal
 
-returns : tie.Need-returns
+pub returns : goal.returns
 returns c =
-    let s = c.before.before.before.before.before.before.before in
-    let g = s.well-formed in
+    let s = c in
+    let g = s.well_formed in
     let a = s.args in
-    let head : List ℕ = a.t3 in
+    let head : List ℕ = a.header in
     let rest : List ℕ = a.quoted.now in
     let m : List ℕ = head ++ rest in
     let lf = good_length (e_int w8) 16 a.from _ g.0 in
     let lt = good_length (e_int w8) 16 a.to _ g.1.0 in
     let lh = good_length (e_int w8) 8 head _ g.1.1.0 in
-    let or : Octets rest = λ i. (c.before.before.before.before.before.before.shared-slice-known.given i).fits in
+    let or : Octets rest = λ i. (c.type_inv.quoted i).fits in
     let om = octets-append head rest (array_octets 8 head _ g.1.1.0) or in
     let lm : length m ≡ length head + length rest = length-append head rest in
     let wm : word_sum m ≡ word_sum head + word_sum rest = word_sum-append head rest (omega arith) in
-    let x = c.before.before.before.before.before.unreduced-address in
-    let y = c.before.before.before.before.unreduced-address2 in
-    let h = c.before.before.unreduced in
-    let z = c.before.unreduced2 in
+    let x = c.unreduced_address in
+    let y = c.unreduced_address-2 in
+    let h = c.unreduced in
+    let z = c.unreduced-2 in
     let n : ℕ = 8 + length rest + 58 in
     let sum = word_sum a.from + word_sum a.to + word_sum rest + n in
     let k = parts_mod x.result y.result z.result (word_sum a.from) (word_sum a.to) (word_sum rest) n x.ensures.0
@@ -46,21 +44,3 @@ returns c =
     ∙ ap (λ (t : ℕ). (65535 - t) % 65535) (ap (λ (t : ℕ). t % 65535) p ∙ e ∙ ap (λ (t : ℕ). t % 65535) q)
     ∙ sym (checksum-is a.from a.to m lf lt (omega (arith, s.requires)) (array_octets 16 a.from _ g.0)
     (array_octets 16 a.to _ g.1.0) om)
-
-pub checksum-spec : {M : Type 1} → statement M
-checksum-spec =
-    tie.close
-    (tie.spec
-    (λ c κs. search rules)
-    (λ c κs. search rules)
-    (λ c. search rules)
-    (λ c. search rules)
-    (λ c. search rules)
-    (λ c. search rules)
-    (λ c. search rules)
-    (λ c κs. search rules)
-    (λ c. search rules)
-    (λ c κs. search rules)
-    (λ c. search rules)
-    (λ c κs. search rules)
-    returns)
