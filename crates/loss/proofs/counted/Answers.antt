@@ -32,22 +32,22 @@ module _ (number highest d : ℕ) (z : ℤ) (small : d < 65536) (fits : highest 
 pub returns-then-distance-eq0 : goal.returns-then-distance-eq0
 unfolding counted
 returns-then-distance-eq0 c =
-    rw (repeats c.args.number c.args.row.highest c.wrapping_sub_u16-d.result c.signed-distance.result (omega arith) (omega arith) c.wrapping_sub_u16-d.ensures.value
-    c.signed-distance.ensures c.if-distance-eq0.true) cc
+    rw (repeats c.args.number c.args.row.highest c.wrapping_sub_u16-d.result c.signed-distance.result (omega arith) (omega arith)
+    c.wrapping_sub_u16-d.ensures.value c.signed-distance.ensures c.if-distance-eq0.true) cc
 
 pub overflow_sub-d : goal.overflow_sub-d
 overflow_sub-d c =
-    at_least_one c.args.number c.args.row.highest c.wrapping_sub_u16-d.result c.signed-distance.result (omega arith) (omega arith) c.wrapping_sub_u16-d.ensures.value
-    c.signed-distance.ensures c.if-distance-gt0.true
+    at_least_one c.args.number c.args.row.highest c.wrapping_sub_u16-d.result c.signed-distance.result (omega arith) (omega arith)
+    c.wrapping_sub_u16-d.ensures.value c.signed-distance.ensures c.if-distance-gt0.true
 
 pub returns-then-distance-gt0 : goal.returns-then-distance-gt0
 unfolding counted
 returns-then-distance-gt0 c =
-    rw (is_new c.args.number c.args.row.highest c.wrapping_sub_u16-d.result c.signed-distance.result (omega arith) (omega arith) c.wrapping_sub_u16-d.ensures.value
-    c.signed-distance.ensures c.if-distance-gt0.true) cc
+    rw (is_new c.args.number c.args.row.highest c.wrapping_sub_u16-d.result c.signed-distance.result (omega arith) (omega arith)
+    c.wrapping_sub_u16-d.ensures.value c.signed-distance.ensures c.if-distance-gt0.true) cc
 
 pub returns : goal.returns
 unfolding counted
 returns c =
-    rw (is_late c.args.number c.args.row.highest c.wrapping_sub_u16-d.result c.signed-distance.result (omega arith) (omega arith) c.wrapping_sub_u16-d.ensures.value
-    c.signed-distance.ensures c.if-distance-gt0.false c.if-distance-eq0.false) cc
+    rw (is_late c.args.number c.args.row.highest c.wrapping_sub_u16-d.result c.signed-distance.result (omega arith) (omega arith)
+    c.wrapping_sub_u16-d.ensures.value c.signed-distance.ensures c.if-distance-gt0.false c.if-distance-eq0.false) cc

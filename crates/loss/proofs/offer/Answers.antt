@@ -1,8 +1,8 @@
 -- The first loop ended at the lowest row of the TEID, or past the rows; the second at the lowest free row, or past them.
-use Rattle.std.proofs.Common.{◌≡◌, ℕ, ◌*◌, ◌<◌, ◌≤◌, Bool, true, ◌⊎◌, List, length, sym, ◌∙◌, inl, inr, subst, ⊎_elim, eq-or-lt_of_le, arith}
+use Rattle.std.proofs.Common.{◌≡◌, ℕ, ◌<◌, ◌≤◌, Bool, true, ◌⊎◌, List, length, sym, ◌∙◌, inl, inr, subst, ⊎_elim, eq-or-lt_of_le, arith}
 use Rattle.loss.specs.Loss.{row_at, free, of_teid, used_of}
 use Rattle.loss.specs.declared.Row.{Row}
-use Rattle.loss.proofs.Searching.{used_le, NoneBefore, offer-none, offer-full, offer-counted, offer-started}
+use Rattle.loss.proofs.Searching.{used_le, NoneBefore, none_yet, offer-none, offer-full, offer-counted, offer-started}
 use Rattle.loss.proofs.offer.Goals as goal
 use Rattle.loss.proofs.offer.Goals.{else-loop-own-test, then-loop-own-test+then-is_of, else-loop-place-test, then-loop-place-test+then-is_free}
 
@@ -18,14 +18,15 @@ found meets rows n i e h = ⊎_elim (λ l. absurd (omega arith)) (λ m. m) e
 inside : (n i : ℕ) → i ≤ n → (i ≡ n → ⊥) → i < n
 inside n i l other = ⊎_elim (λ e. absurd (other e)) (λ h. h) (eq-or-lt_of_le l)
 
-pub offset_bounds-rows-own : goal.offset_bounds-rows-own
-offset_bounds-rows-own c =
+pub loop-own-init : goal.loop-own-init
+loop-own-init c =
     let u = used_le (length c.args.rows.now) in
-    let e : c.loop-own.own * 32 < 8192 = omega (arith, c.used_of-n.ensures) in
-    omega arith
-
-pub slice_copy_out-is_of : goal.slice_copy_out-is_of
-slice_copy_out-is_of c = let u = used_le (length c.args.rows.now) in omega (arith, c.used_of-n.ensures)
+    record {
+      within = omega arith;
+      lent = omega (arith, c.used_of-n.ensures);
+      few = omega (arith, c.used_of-n.ensures);
+      none = none_yet (of_teid c.args.teid) c.args.rows.now;
+    }
 
 pub returns-then-row : goal.returns-then-row
 returns-then-row c =
@@ -54,12 +55,6 @@ returns-then-own-n c =
     c.if-row.false
     c.counted.result
     c.counted.ensures
-
-pub slice_copy_out-is_free : goal.slice_copy_out-is_free
-slice_copy_out-is_free c = let u = used_le (length c.args.rows.now) in omega (arith, c.used_of-n.ensures)
-
-pub bounds-rows-place : goal.bounds-rows-place
-bounds-rows-place c = let u = used_le (length c.args.rows.now) in omega (arith, c.used_of-n.ensures)
 
 pub returns-then-place-n : goal.returns-then-place-n
 returns-then-place-n c =
