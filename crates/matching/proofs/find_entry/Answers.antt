@@ -1,11 +1,10 @@
 use Rattle.std.proofs.Common.{rules}
 use mathlib.Core.Path.{◌≡◌, sym, ◌∙◌}
-use mathlib.Core.Logic.{⊎_elim}
-use Prim.Native.Nat.{◌-◌}
 use native.Mathlib.Omega.{arith}
 use Rattle.rules.specs.Table.{entries}
-use Rattle.rules.specs.Match.{entry_matches, match_entry}
+use Rattle.rules.specs.Match.{match_entry}
 use Rattle.matching.proofs.Longest.{longest-none, longest_hit, longest_miss, found_below}
+use Rattle.matching.proofs.find_entry.Goals.{then-entry_matches, else-entry_matches}
 use Rattle.matching.proofs.find_entry.Goals as goal
 
 pub loop-i-init : goal.loop-i-init
@@ -15,15 +14,15 @@ pub longer_entry-found-requires : goal.longer_entry-found-requires
 longer_entry-found-requires c = (omega arith, rw c.loop-i.invariant.1 (found_below _ _ _))
 
 pub loop-i-preserved : goal.loop-i-preserved
-loop-i-preserved c =
-    let k = c in (
-      omega arith,
-      ⊎_elim
-          (λ w. w.2 ∙ w.1.ensures ∙ rw k.loop-i.invariant.1
-          (sym (longest_hit _ _ k.loop-i.i (sym c.entry_matches.ensures ∙ w.0.taken))))
-          (λ w. w.1 ∙ k.loop-i.invariant.1 ∙ sym (longest_miss _ _ k.loop-i.i (sym c.entry_matches.ensures ∙ w.0.left)))
-          c.if-entry_matches.branch,
-    )
+loop-i-preserved c = (
+  omega arith,
+  elim c.if-entry_matches.branch [
+    | then-entry_matches w ↦ w.found-is ∙ w.longer_entry-found.ensures ∙ rw c.loop-i.invariant.1
+        (sym (longest_hit _ _ c.loop-i.i (sym c.entry_matches.ensures ∙ w.if-entry_matches.true)))
+    | else-entry_matches w ↦ w.found-is ∙ c.loop-i.invariant.1
+        ∙ sym (longest_miss _ _ c.loop-i.i (sym c.entry_matches.ensures ∙ w.if-entry_matches.false))
+  ],
+)
 
 pub returns : goal.returns
 unfolding match_entry
