@@ -1,5 +1,7 @@
 // Echo at D, Di and D4 (TS 29.281, 7.2): row 17, and the Echo Response that goes back to the sender of an Echo Request. Flags, TEID, port
 // and sequence number are read from the packet here and not from its view: nothing is kept for them where a G-PDU is sent on.
+#![tactic(auto)]
+
 ghost use Rattle.std.specs.Prelude.{◌≡◌, [], ◌++◌, ◌≤◌, ◌<◌, length, drop};
 ghost use Rattle.rules.specs.Octets.{window, splice};
 ghost use Rattle.rules.specs.Ipv6.{ipv6, source, destination};

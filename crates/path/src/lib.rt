@@ -1,4 +1,6 @@
 // Packets along a path: what D, Di and D4 share. Rows 9 to 15 are in gpdu.rt; here is what is written before the inner packet.
+#![tactic(auto)]
+
 ghost use Rattle.std.specs.Prelude.{◌≡◌, [], ◌∷◌, ◌++◌, ◌+◌, ◌*◌, ◌≤◌, ◌<◌, length, get_or};
 ghost use Rattle.rules.specs.Table.{addresses_at};
 ghost use Rattle.rules.specs.Srh.{segments};
@@ -15,7 +17,7 @@ const FRONT: usize = 48;
 
 // What is written along a path: waypoints that stand in a record from octet `from` on, then a SID, and with a tail of 2 the address `end`
 // behind it; and from which place on the arriving octets follow.
-#[derive(Drop)]
+#[derive(Clone, Copy)]
 pub struct PathPlan {
     pub trafficClass: u8,
     pub upper: u8,

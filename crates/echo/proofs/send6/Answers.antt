@@ -1,0 +1,36 @@
+use mathlib.Core.Path.{◌≡◌, ◌∙◌}
+use Prim.Native.Nat.{ℕ}
+use mathlib.Core.List.{List, [], ◌++◌}
+use native.Mathlib.Omega.{arith}
+use lib.ListN.{drop, length-append}
+use Rattle.rules.specs.Octets.{window}
+use Rattle.rules.specs.Ipv6.{ipv6}
+use Rattle.rules.specs.Echo.{echo_answer, echo_checksum}
+use Rattle.rules.proofs.Plans.{ipv6_before}
+use Rattle.echo.specs.Reply.{reply_to6}
+use Rattle.echo.proofs.Laws.{reply_no_room, reply_sent}
+use Rattle.echo.proofs.send6.Goals as goal
+
+-- what is written is what was read, put together
+head_of : (p : List ℕ) (at class hops : ℕ) (source destination datagram : List ℕ)
+    → source ≡ window p 24 16 → destination ≡ window p 8 16
+    → datagram ≡ echo_answer (echo_checksum (window p 24 16) (window p 8 16) (drop at p)) (drop at p)
+    → ipv6 class 22 17 hops source destination [] ++ datagram ≡ reply_to6 p at class hops
+head_of p at class hops source destination datagram hs hd hu =
+    (λ i. ipv6 class 22 17 hops (hs i) (hd i) [] ++ hu i)
+    ∙ ipv6_before class 22 17 hops (window p 24 16) (window p 8 16)
+    (echo_answer (echo_checksum (window p 24 16) (window p 8 16) (drop at p)) (drop at p))
+
+pub returns-then-a-eq0 : goal.returns-then-a-eq0
+returns-then-a-eq0 c =
+    let w = c in
+    let a = w.args in
+    reply_sent _ a.packet.now c.send-a.ensures (head_of a.packet.now a.at a.class a.hops _ _ _ w.window16-source.ensures w.window16-destination.ensures w.response6-datagram.ensures)
+    c.if-a-eq0.true c.put_reply6.ensures
+
+pub returns-else-a-eq0 : goal.returns-else-a-eq0
+returns-else-a-eq0 c =
+    let w = c in
+    let a = w.args in
+    reply_no_room _ a.packet.now c.send-a.ensures (head_of a.packet.now a.at a.class a.hops _ _ _ w.window16-source.ensures w.window16-destination.ensures w.response6-datagram.ensures) c.if-a-eq0.false
+    (simp length-append (omega (arith, w.response6-datagram.type_inv, w.window16-source.type_inv, w.window16-destination.type_inv)))
