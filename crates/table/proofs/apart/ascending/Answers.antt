@@ -17,8 +17,7 @@ loop-i-init c = (search rules, search rules, ascends_one _ _ (other_key _))
 
 pub loop-i-preserved : goal.loop-i-preserved
 loop-i-preserved c =
-    let k = c in
-    let t : List ℕ = k.args.table.now in
-    let i : ℕ = k.loop-i.i in
+    let t : List ℕ = c.args.table.now in
+    let i : ℕ = c.loop-i.i in
     let h : entry_key t (i - 1) < entry_key t i = ltb-true _ _ (sym c.precedes.ensures ∙ c.if-not-precedes.false) in
-    (omega arith, omega arith, ascends_more _ _ (other_key t) i k.loop-i.invariant.0 k.loop-i.invariant.2 h)
+    (omega arith, omega arith, ascends_more _ _ (other_key t) i c.loop-i.invariant.0 c.loop-i.invariant.2 h)

@@ -17,19 +17,16 @@ loop-j-init c = (search rules, first-none _)
 
 pub returns-then-not-entry_fresh : goal.returns-then-not-entry_fresh
 returns-then-not-entry_fresh c =
-    let b = c in
-    let l = b in
-    let t : List ℕ = l.args.table.now in
-    let j : ℕ = l.loop-j.j in
+    let t : List ℕ = c.args.table.now in
+    let j : ℕ = c.loop-j.j in
     let e : fault_at t j ≡ told entry_record j 14 =
-    ap (λ (b : Bool). told entry_record j (cond b 0 14)) (sym b.entry_fresh.ensures ∙ b.if-not-entry_fresh.true) in
-    c.told.ensures ∙ sym e ∙ sym (first_found (fault_at t) _ j (omega arith) l.loop-j.invariant.1 (rw e (none_told entry_record j 14)))
+    ap (λ (b : Bool). told entry_record j (cond b 0 14)) (sym c.entry_fresh.ensures ∙ c.if-not-entry_fresh.true) in
+    c.told.ensures ∙ sym e ∙ sym (first_found (fault_at t) _ j (omega arith) c.loop-j.invariant.1 (rw e (none_told entry_record j 14)))
 
 pub loop-j-preserved : goal.loop-j-preserved
 loop-j-preserved c =
-    let l = c in
-    let t : List ℕ = l.args.table.now in
-    let j : ℕ = l.loop-j.j in
+    let t : List ℕ = c.args.table.now in
+    let j : ℕ = c.loop-j.j in
     let e : fault_at t j ≡ told entry_record j 0 = ap (λ (b : Bool). told entry_record j (cond b 0 14))
     (sym c.entry_fresh.ensures ∙ c.if-not-entry_fresh.false) in
-    (search rules, first_more (fault_at t) j l.loop-j.invariant.1 (e ∙ told_none entry_record j))
+    (search rules, first_more (fault_at t) j c.loop-j.invariant.1 (e ∙ told_none entry_record j))

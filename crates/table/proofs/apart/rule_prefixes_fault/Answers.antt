@@ -17,19 +17,16 @@ loop-j-init c = (search rules, first-none _)
 
 pub returns-then-not-rule_fresh : goal.returns-then-not-rule_fresh
 returns-then-not-rule_fresh c =
-    let b = c in
-    let l = b in
-    let t : List ℕ = l.args.table.now in
-    let j : ℕ = l.loop-j.j in
+    let t : List ℕ = c.args.table.now in
+    let j : ℕ = c.loop-j.j in
     let e : fault_at t j ≡ told rule_record j 12 = ap (λ (b : Bool). told rule_record j (cond b 0 12))
-    (sym b.rule_fresh.ensures ∙ b.if-not-rule_fresh.true) in
-    c.told.ensures ∙ sym e ∙ sym (first_found (fault_at t) _ j (omega arith) l.loop-j.invariant.1 (rw e (none_told rule_record j 12)))
+    (sym c.rule_fresh.ensures ∙ c.if-not-rule_fresh.true) in
+    c.told.ensures ∙ sym e ∙ sym (first_found (fault_at t) _ j (omega arith) c.loop-j.invariant.1 (rw e (none_told rule_record j 12)))
 
 pub loop-j-preserved : goal.loop-j-preserved
 loop-j-preserved c =
-    let l = c in
-    let t : List ℕ = l.args.table.now in
-    let j : ℕ = l.loop-j.j in
+    let t : List ℕ = c.args.table.now in
+    let j : ℕ = c.loop-j.j in
     let e : fault_at t j ≡ told rule_record j 0 = ap (λ (b : Bool). told rule_record j (cond b 0 12))
     (sym c.rule_fresh.ensures ∙ c.if-not-rule_fresh.false) in
-    (search rules, first_more (fault_at t) j l.loop-j.invariant.1 (e ∙ told_none rule_record j))
+    (search rules, first_more (fault_at t) j c.loop-j.invariant.1 (e ∙ told_none rule_record j))

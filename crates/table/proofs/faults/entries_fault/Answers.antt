@@ -20,22 +20,18 @@ loop-i-init c = (search rules, first-none _)
 
 pub returns-then-condition-ne0 : goal.returns-then-condition-ne0
 returns-then-condition-ne0 c =
-    let b = c in
-    let l = b in
-    let t : List ℕ = l.args.table.now in
-    let i : ℕ = l.loop-i.i in
-    let e : b.broken-condition.result ≡ entry_broken (policies t) (entry_at t i) =
-    rw (b.broken-condition.ensures, b.entry_at.ensures.same, l.policies-policy_count.ensures.value) refl in
+    let t : List ℕ = c.args.table.now in
+    let i : ℕ = c.loop-i.i in
+    let e : c.broken-condition.result ≡ entry_broken (policies t) (entry_at t i) =
+    rw (c.broken-condition.ensures, c.entry_at.ensures.same, c.policies-policy_count.ensures.value) refl in
     let found : eqb (fault_at t i) 0 ≡ false = none_told entry_record i (entry_broken (policies t) (entry_at t i))
     ∙ ne_eqb _ _ (λ z. c.if-condition-ne0.true (e ∙ z)) in
-    c.told.ensures ∙ ap (told entry_record i) e ∙ sym (first_found (fault_at t) _ i (omega arith) l.loop-i.invariant.1 found)
+    c.told.ensures ∙ ap (told entry_record i) e ∙ sym (first_found (fault_at t) _ i (omega arith) c.loop-i.invariant.1 found)
 
 pub loop-i-preserved : goal.loop-i-preserved
 loop-i-preserved c =
-    let b = c in
-    let l = b in
-    let t : List ℕ = l.args.table.now in
-    let i : ℕ = l.loop-i.i in
-    let e : b.broken-condition.result ≡ entry_broken (policies t) (entry_at t i) =
-    rw (b.broken-condition.ensures, b.entry_at.ensures.same, l.policies-policy_count.ensures.value) refl in
-    (search rules, first_more (fault_at t) i l.loop-i.invariant.1 (ap (told entry_record i) (sym e ∙ c.if-condition-ne0.false) ∙ told_none entry_record i))
+    let t : List ℕ = c.args.table.now in
+    let i : ℕ = c.loop-i.i in
+    let e : c.broken-condition.result ≡ entry_broken (policies t) (entry_at t i) =
+    rw (c.broken-condition.ensures, c.entry_at.ensures.same, c.policies-policy_count.ensures.value) refl in
+    (search rules, first_more (fault_at t) i c.loop-i.invariant.1 (ap (told entry_record i) (sym e ∙ c.if-condition-ne0.false) ∙ told_none entry_record i))

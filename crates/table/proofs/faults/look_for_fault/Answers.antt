@@ -21,18 +21,16 @@ headerless t e =
 pub returns-then-header-ne0 : goal.returns-then-header-ne0
 unfolding fault_within
 returns-then-header-ne0 c =
-    let h = c in
-    let t : List ℕ = h.args.table.now in
-    let broken : header_broken entry_limit t ≡ 0 → ⊥ = λ e. c.if-header-ne0.true (h.header_broken-header.ensures ∙ e) in
-    c.told.ensures ∙ ap (told header_record 0) h.header_broken-header.ensures
+    let t : List ℕ = c.args.table.now in
+    let broken : header_broken entry_limit t ≡ 0 → ⊥ = λ e. c.if-header-ne0.true (c.header_broken-header.ensures ∙ e) in
+    c.told.ensures ∙ ap (told header_record 0) c.header_broken-header.ensures
     ∙ sym (else_fault (header_fault entry_limit t) _
     (none_told header_record 0 (header_broken entry_limit t) ∙ ne_eqb (header_broken entry_limit t) 0 broken))
 
 pub returns : goal.returns
 returns c =
-    let y = c in
-    next y.entries_fault.ensures c.or_else-4.ensures
-    (next y.entry_prefixes_fault.ensures c.or_else-3.ensures
-    (next y.rules_fault.ensures c.or_else-2.ensures
-    (next y.rule_prefixes_fault.ensures c.or_else.ensures y.policies_fault.ensures)))
+    next c.entries_fault.ensures c.or_else-4.ensures
+    (next c.entry_prefixes_fault.ensures c.or_else-3.ensures
+    (next c.rules_fault.ensures c.or_else-2.ensures
+    (next c.rule_prefixes_fault.ensures c.or_else.ensures c.policies_fault.ensures)))
     ∙ sym (headerless _ (sym c.header_broken-header.ensures ∙ c.if-header-ne0.false))

@@ -20,20 +20,16 @@ loop-j-init c = (search rules, first-none _)
 
 pub returns-then-condition-ne0 : goal.returns-then-condition-ne0
 returns-then-condition-ne0 c =
-    let b = c in
-    let l = b in
-    let t : List ℕ = l.args.table.now in
-    let j : ℕ = l.loop-j.j in
-    let e : b.broken-condition.result ≡ policy_broken (policy_at t j) = rw (b.broken-condition.ensures, b.policy_at.ensures.same) refl in
+    let t : List ℕ = c.args.table.now in
+    let j : ℕ = c.loop-j.j in
+    let e : c.broken-condition.result ≡ policy_broken (policy_at t j) = rw (c.broken-condition.ensures, c.policy_at.ensures.same) refl in
     let found : eqb (fault_at t j) 0 ≡ false = none_told policy_record j (policy_broken (policy_at t j))
     ∙ ne_eqb _ _ (λ z. c.if-condition-ne0.true (e ∙ z)) in
-    c.told.ensures ∙ ap (told policy_record j) e ∙ sym (first_found (fault_at t) _ j (omega arith) l.loop-j.invariant.1 found)
+    c.told.ensures ∙ ap (told policy_record j) e ∙ sym (first_found (fault_at t) _ j (omega arith) c.loop-j.invariant.1 found)
 
 pub loop-j-preserved : goal.loop-j-preserved
 loop-j-preserved c =
-    let b = c in
-    let l = b in
-    let t : List ℕ = l.args.table.now in
-    let j : ℕ = l.loop-j.j in
-    let e : b.broken-condition.result ≡ policy_broken (policy_at t j) = rw (b.broken-condition.ensures, b.policy_at.ensures.same) refl in
-    (search rules, first_more (fault_at t) j l.loop-j.invariant.1 (ap (told policy_record j) (sym e ∙ c.if-condition-ne0.false) ∙ told_none policy_record j))
+    let t : List ℕ = c.args.table.now in
+    let j : ℕ = c.loop-j.j in
+    let e : c.broken-condition.result ≡ policy_broken (policy_at t j) = rw (c.broken-condition.ensures, c.policy_at.ensures.same) refl in
+    (search rules, first_more (fault_at t) j c.loop-j.invariant.1 (ap (told policy_record j) (sym e ∙ c.if-condition-ne0.false) ∙ told_none policy_record j))

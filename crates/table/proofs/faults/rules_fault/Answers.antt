@@ -20,20 +20,16 @@ loop-k-init c = (search rules, first-none _)
 
 pub returns-then-condition-ne0 : goal.returns-then-condition-ne0
 returns-then-condition-ne0 c =
-    let b = c in
-    let l = b in
-    let t : List ℕ = l.args.table.now in
-    let k : ℕ = l.loop-k.k in
-    let e : b.broken-condition.result ≡ rule_broken (rule_at t k) = rw (b.broken-condition.ensures, b.rule_at.ensures.same) refl in
+    let t : List ℕ = c.args.table.now in
+    let k : ℕ = c.loop-k.k in
+    let e : c.broken-condition.result ≡ rule_broken (rule_at t k) = rw (c.broken-condition.ensures, c.rule_at.ensures.same) refl in
     let found : eqb (fault_at t k) 0 ≡ false = none_told rule_record k (rule_broken (rule_at t k))
     ∙ ne_eqb _ _ (λ z. c.if-condition-ne0.true (e ∙ z)) in
-    c.told.ensures ∙ ap (told rule_record k) e ∙ sym (first_found (fault_at t) _ k (omega arith) l.loop-k.invariant.1 found)
+    c.told.ensures ∙ ap (told rule_record k) e ∙ sym (first_found (fault_at t) _ k (omega arith) c.loop-k.invariant.1 found)
 
 pub loop-k-preserved : goal.loop-k-preserved
 loop-k-preserved c =
-    let b = c in
-    let l = b in
-    let t : List ℕ = l.args.table.now in
-    let k : ℕ = l.loop-k.k in
-    let e : b.broken-condition.result ≡ rule_broken (rule_at t k) = rw (b.broken-condition.ensures, b.rule_at.ensures.same) refl in
-    (search rules, first_more (fault_at t) k l.loop-k.invariant.1 (ap (told rule_record k) (sym e ∙ c.if-condition-ne0.false) ∙ told_none rule_record k))
+    let t : List ℕ = c.args.table.now in
+    let k : ℕ = c.loop-k.k in
+    let e : c.broken-condition.result ≡ rule_broken (rule_at t k) = rw (c.broken-condition.ensures, c.rule_at.ensures.same) refl in
+    (search rules, first_more (fault_at t) k c.loop-k.invariant.1 (ap (told rule_record k) (sym e ∙ c.if-condition-ne0.false) ∙ told_none rule_record k))

@@ -6,9 +6,8 @@ pub loop-i-init : goal.loop-i-init
 loop-i-init c = (search rules, all_none _)
 
 pub loop-i-preserved : goal.loop-i-preserved
-loop-i-preserved c =
-    let k = c in (
-      search rules,
-      all_more _ k.loop-i.i k.loop-i.invariant.1
-          (rw (← c.entry_at.ensures.same) (c.surely_sound.ensures (c.if-not-surely_sound.false))),
-    )
+loop-i-preserved c = (
+  search rules,
+  all_more _ c.loop-i.i c.loop-i.invariant.1
+      (rw (← c.entry_at.ensures.same) (c.surely_sound.ensures (c.if-not-surely_sound.false))),
+)

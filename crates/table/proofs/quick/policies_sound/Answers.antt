@@ -6,9 +6,8 @@ pub loop-j-init : goal.loop-j-init
 loop-j-init c = (search rules, all_none _)
 
 pub loop-j-preserved : goal.loop-j-preserved
-loop-j-preserved c =
-    let k = c in (
-      search rules,
-      all_more _ k.loop-j.j k.loop-j.invariant.1
-          (rw (← c.policy_from.ensures.same) (c.surely_sound.ensures (c.if-not-surely_sound.false))),
-    )
+loop-j-preserved c = (
+  search rules,
+  all_more _ c.loop-j.j c.loop-j.invariant.1
+      (rw (← c.policy_from.ensures.same) (c.surely_sound.ensures (c.if-not-surely_sound.false))),
+)

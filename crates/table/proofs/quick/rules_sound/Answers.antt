@@ -6,9 +6,8 @@ pub loop-k-init : goal.loop-k-init
 loop-k-init c = (search rules, all_none _)
 
 pub loop-k-preserved : goal.loop-k-preserved
-loop-k-preserved c =
-    let k = c in (
-      search rules,
-      all_more _ k.loop-k.k k.loop-k.invariant.1
-          (rw (← c.rule_from.ensures.same) (c.surely_sound.ensures (c.if-not-surely_sound.false))),
-    )
+loop-k-preserved c = (
+  search rules,
+  all_more _ c.loop-k.k c.loop-k.invariant.1
+      (rw (← c.rule_from.ensures.same) (c.surely_sound.ensures (c.if-not-surely_sound.false))),
+)
