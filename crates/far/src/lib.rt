@@ -1,4 +1,6 @@
 // The far end, where SRv6 becomes GTP-U: E6, End.M.GTP6.E (RFC 9433, 6.5), and E4, End.M.GTP4.E (6.6).
+#![tactic(auto)]
+
 ghost use Rattle.std.specs.Prelude.{◌≡◌, not, [], ◌∷◌, ◌++◌, ◌+◌, ◌≤◌, length};
 ghost use Rattle.rules.specs.Entry as Entry;
 ghost use Rattle.rules.specs.SoundRecord.{SoundE6, SoundE4};

@@ -1,4 +1,6 @@
 // Tables that the caller lends as octets: whether one is sound, and what it breaks.
+#![tactic(auto)]
+
 ghost use Rattle.std.specs.Prelude.{◌≡◌};
 ghost use Rattle.rules.specs.Sound.{sound};
 
