@@ -1,4 +1,6 @@
 // The two calls: from a packet and table octets to a packet written, or a refusal.
+#![tactic(auto)]
+
 ghost use Rattle.std.specs.Prelude.{◌≡◌, true, length};
 ghost use Rattle.rules.specs.Octets.{window};
 ghost use Rattle.rules.specs.Table.{entry_at};
@@ -19,7 +21,7 @@ use rules::{Found, Refusal, assigned};
 const IPV4_SIZE: u16 = 20;
 
 // What a call has decided, also where it refuses: its answer, the entry or rule that matched, and where the upper layer begins.
-#[derive(Drop)]
+#[derive(Clone, Copy)]
 pub struct Decided {
     pub answer: Answer,
     pub found: Found,

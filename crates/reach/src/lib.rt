@@ -1,4 +1,6 @@
 // The longest entry of a table that the SIDs of a near record can come under, for some Args and, at a rule, some destination.
+#![tactic(auto)]
+
 ghost use Rattle.std.specs.Prelude.{◌≡◌, ◌+◌, ◌*◌, ◌/◌, ◌^◌, ◌≤◌, ◌<◌, eqb, length};
 ghost use Rattle.rules.specs.Table.{rules_at};
 ghost use Rattle.rules.specs.Rule as Rule;

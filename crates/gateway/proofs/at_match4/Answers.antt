@@ -1,0 +1,76 @@
+use Rattle.rules.proofs.Deciding.{at_found-rule, at_no_rule}
+use Rattle.table.proofs.Bounds.{rules_within_lem, found-rule_within}
+use Rattle.answer.proofs.Settling.{answered_named, answered_as}
+use Rattle.rules.proofs.Tables.{found-rule}
+use Rattle.rules.specs.Answer.{plain, settle}
+use Rattle.rules.specs.Calls.{at_found_rule}
+use Rattle.rules.specs.D4.{at_d4}
+use Rattle.rules.specs.Ipv4 as Ipv4
+use Rattle.rules.specs.Match.{match_rule}
+use Rattle.rules.specs.Sound.{entry_limit}
+use Rattle.rules.specs.SoundRecord.{SoundRule}
+use Rattle.rules.specs.declared.Found.{Found}
+use lib.ListN.{length}
+use native.Mathlib.Omega.{arith}
+use Prim.Native.Nat.{ℕ}
+use mathlib.Core.List.{List}
+use mathlib.Core.Path.{◌≡◌, refl, sym, ap, ◌∙◌, subst}
+use Rattle.gateway.proofs.at_match4.Goals as goal
+
+found-is : (c : goal.After-find_rule-found) → let a = c.args in match_rule a.table.now
+    (Ipv4.destination a.packet.now) ≡ c.find_rule-found.result
+found-is c = sym (c.find_rule-found.ensures ∙ ap (match_rule c.args.table.now)
+    c.window4-destination.ensures)
+
+pub find_rule-found-requires : goal.find_rule-found-requires
+find_rule-found-requires c = (
+  rules_within_lem c.args.table.now
+      c.requires.0,
+  omega (arith, c),
+)
+
+pub rule_at-r-requires : goal.rule_at-r-requires
+rule_at-r-requires c =
+    let s = c in
+    let a = s.args in
+    found-rule_within a.table.now s.requires.0 (Ipv4.destination a.packet.now) _ (found-is c ∙
+    c.found-1.given.1)
+
+pub at_d4-answer-requires : goal.at_d4-answer-requires
+at_d4-answer-requires c =
+    let s = c in
+    let a = s.args in
+    let l = c.rule_at-r.ensures in
+    let q = found-rule entry_limit a.table.now (Ipv4.destination a.packet.now) _ s.requires.0
+    (found-is c ∙ c.found-1.given.1) in
+    record { octets = l.long; sound = subst SoundRule (sym l.same) q; arrived = s.requires.1 }
+
+pub returns-in-Nothing : goal.returns-in-Nothing
+unfolding settle
+returns-in-Nothing c =
+    let a = c.args in
+    let t : List ℕ = a.table.now in
+    let p : List ℕ = a.packet.now in
+    let room : ℕ = length a.out.now in
+    let f = found-is c ∙ c.enum_told-1.given.1 in
+    record {
+      answered = answered_named _ (plain 4) _ _ _ (ap (λ (f : Found). settle room (at_found_rule t p f)) f ∙ ap (settle room) (at_no_rule t
+          p)) c.no_match.ensures c.refused.ensures;
+      found = sym f;
+      upperAt = refl;
+    }
+
+pub returns-in-At : goal.returns-in-At
+returns-in-At c =
+    let a = c.args in
+    let t : List ℕ = a.table.now in
+    let p : List ℕ = a.packet.now in
+    let room : ℕ = length a.out.now in
+    let f = found-is c ∙ c.found-1.given.1 in
+    record {
+      answered = answered_as _ _ _ _ _ ((λ i. settle room (at_d4 (c.rule_at-r.ensures.same i) p)) ∙ ap
+          (settle room) (sym (at_found-rule t p _)) ∙ ap (λ (f : Found). settle room (at_found_rule t p f)) (sym f))
+          c.at_d4-answer.ensures;
+      found = sym f;
+      upperAt = refl;
+    }
