@@ -1,6 +1,6 @@
 #!/usr/bin/env bash
 # worked.sh SECOND PROGRAM: what the program `worked` reads, and what it is to print, are the second program's own words; a part of it comes
-# out the same on the interpreter and compiled with checks, and so do ICMPv6 messages, and more of these by PROGRAM, `worked` as it is built.
+# out the same on the interpreter and compiled with checks, and so do ICMPv6 messages, and more of these by PROGRAM, `worked` as built.
 # worked.sh SECOND --write: makes the two files anew, and does nothing else.
 set -eu
 
