@@ -1,10 +1,12 @@
 // What every call ends in: an answer, and the one function that sends.
+#![tactic(auto)]
+
 ghost use Rattle.std.specs.Prelude.{◌≡◌, ◌+◌, ◌-◌, ◌≤◌, ◌<◌, length};
 ghost use Rattle.rules.specs.Answer.{Refused, packed_fields};
 ghost use Rattle.answer.specs.Answered.{answer_of, Placed};
 
 // A number of the answer table with its ICMP fields, and the octets sent.
-#[derive(Drop)]
+#[derive(Clone, Copy)]
 pub struct Answer {
     pub number: u8,
     pub icmpType: u8,

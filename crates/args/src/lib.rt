@@ -1,4 +1,6 @@
 // Args.Mob.Session (RFC 9433, 6.1), the argument that a SID carries.
+#![tactic(auto)]
+
 ghost use Rattle.std.specs.Prelude.{◌≡◌, cond, ◌/◌, ◌%◌, ◌≤◌, eqb};
 ghost use Rattle.rules.specs.Octets.{octet};
 ghost use Rattle.rules.specs.Assigned.{downlink};
@@ -12,7 +14,7 @@ use rules::assigned::DOWNLINK;
 const CONTAINER_REFLECTIVE_PLACE: u8 = 64;
 
 // The octets as they stand in a SID: every value is one that a SID can carry.
-#[derive(Drop)]
+#[derive(Clone, Copy)]
 pub struct Args {
     octets: [u8; Args::WIDTH_OCTETS],
 }

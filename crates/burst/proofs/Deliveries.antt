@@ -11,7 +11,7 @@ use Rattle.rules.specs.Trip.{Stop, trip, stops}
 use Rattle.rules.specs.Demand3.{Matching, over6, over4}
 use Rattle.rules.proofs.Trips.{overlay-sent}
 use Rattle.rules.proofs.Demand3.{demand3}
-use Rattle.burst.specs.Burst.{most, cut, outcomes, results, burst, Fit}
+use Rattle.burst.specs.Burst.{most, cut, results, Fit}
 use Rattle.burst.specs.BurstTrip.{sent_on, lengths_of, arrived, with_later, BurstTrip, outcomes_at, onward, burst_trip}
 use Rattle.burst.specs.BurstTrip.{single, calls, RoomForAll}
 use Rattle.burst.specs.BurstTrip.{EachMatching, promised, each_promised}

@@ -1,13 +1,13 @@
 -- At the end of a trip made of bursts the far gateway's output holds each packet that arrived, at the place that the outcomes tell.
 use mathlib.Core.Path.{◌≡◌, refl, sym, ap, ◌∙◌}
 use mathlib.Core.List.{List, [], ◌∷◌, ◌++◌}
-use Prim.Native.Nat.{ℕ, suc, ◌+◌, ◌≤◌}
+use Prim.Native.Nat.{ℕ, suc, ◌≤◌}
 use native.Mathlib.Omega.{arith}
 use lib.ListN.{length}
 use Rattle.rules.specs.Octets.{splice}
 use Rattle.rules.specs.Answer.{Outcome, Sent, Refused}
 use Rattle.rules.specs.Trip.{Stop}
-use Rattle.burst.specs.Burst.{most, cut, result, outcomes, results, Fit}
+use Rattle.burst.specs.Burst.{most, cut, result, results, Fit}
 use Rattle.burst.specs.Alone.{Laid}
 use Rattle.burst.specs.BurstTrip.{sent_on, lengths_of, arrived, with_later, BurstTrip, outcomes_at, burst_trip, last_of}
 use Rattle.burst.proofs.Laws.{cut-length, outcomes-length}

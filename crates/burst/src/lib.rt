@@ -1,5 +1,7 @@
 // Bursts (order 3): row 19, and the length that an answer holds. What a burst is, and that a trip may be made of bursts, is in specs/ and
 // proofs/.
+#![tactic(auto)]
+
 ghost use Rattle.std.specs.Prelude.{◌≡◌, ◌/◌, ◌≤◌, ◌<◌, length};
 ghost use Rattle.rules.specs.Answer.{any};
 ghost use Rattle.burst.specs.Burst.{sum, unfit};

@@ -1,4 +1,6 @@
 // What a record of a sound table has to meet by itself: whether it does, and which condition it breaks first.
+#![tactic(auto)]
+
 ghost use Rattle.std.specs.Prelude.{◌≡◌, cond};
 
 pub mod entry; // entry.rt: a SID entry

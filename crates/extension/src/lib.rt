@@ -2,6 +2,8 @@
 //
 // A place is that of an octet which says what type of header follows. The second octet behind it begins that header's contents, and the
 // last octet of the header is the next place.
+#![tactic(auto)]
+
 ghost use Rattle.std.specs.Prelude.{◌≡◌, ◌<◌};
 ghost use Rattle.extension.specs.Extension.{extension_after, fields_of, first_place};
 
@@ -9,7 +11,7 @@ ghost use Rattle.extension.specs.Extension.{extension_after, fields_of, first_pl
 const FIRST_PLACE: usize = 11;
 
 // What stands at a place: the type, the unit count, where the contents begin, and the next place.
-#[derive(Drop)]
+#[derive(Clone, Copy)]
 pub struct Fields {
     pub kind: u8,
     pub units: u8,
@@ -18,7 +20,7 @@ pub struct Fields {
 }
 
 // What follows a place. Every case has the fields: what is read of a message is total, and past the end it is 0.
-#[derive(Drop)]
+#[derive(Clone, Copy)]
 pub enum Extension {
     // type 0: no header
     End(Fields),
@@ -28,7 +30,7 @@ pub enum Extension {
 }
 
 // A place in a GTP-U message.
-#[derive(Drop)]
+#[derive(Clone, Copy)]
 pub struct ExtensionReader<'a> {
     pub gtp: &'a [u8],
     pub at: usize,

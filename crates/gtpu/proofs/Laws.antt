@@ -9,7 +9,7 @@ use lib.Dec.{eqb}
 use lib.ListN.{length, drop, length-drop}
 use Rattle.rules.specs.Octets.{octet, window, put16}
 use Rattle.rules.specs.Assigned.{downlink, g_pdu, gtpu_port, pdu_session_container}
-use Rattle.rules.specs.Answer.{Row, row, any, verdict, first}
+use Rattle.rules.specs.Answer.{Row, any, verdict, first}
 use Rattle.rules.specs.Args.{Args}
 use Rattle.rules.specs.Gtpu as Gtpu
 use Rattle.rules.specs.Gtpu.{udp, flow_octet, gtpu_flags, datagram_before}

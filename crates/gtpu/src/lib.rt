@@ -1,5 +1,7 @@
 // UDP (RFC 768), GTP-U (TS 29.281) and the PDU Session container (TS 38.415): what is read of a datagram, the tests of rows 8 to 15, and
 // how a G-PDU is written.
+#![tactic(auto)]
+
 ghost use Rattle.std.specs.Prelude.{◌≡◌, [], ◌∷◌, ◌+◌, ◌*◌, ◌/◌, ◌≤◌, ◌<◌, ltb, length, drop};
 ghost use Rattle.rules.specs.Assigned.{g_pdu};
 ghost use Rattle.rules.specs.Answer.{row, differs, any, verdict};

@@ -1,4 +1,6 @@
 // ICMPv6 error messages (RFC 4443, 3.3 and 3.4) about a packet that the IPv6 call refused: how one is written.
+#![tactic(auto)]
+
 ghost use Rattle.std.specs.Prelude.{◌≡◌, [], ◌++◌, ◌+◌, ◌-◌, ◌%◌, ◌≤◌, ◌<◌, length};
 ghost use Rattle.rules.specs.Ipv6.{ipv6};
 ghost use Rattle.rules.specs.Answer.{Sent, settle};

@@ -1,4 +1,6 @@
 // IPv6 and IPv4 headers (RFC 8200, RFC 791): what is read of them, the tests of rows 2, 3 and 5, and how they are written.
+#![tactic(auto)]
+
 ghost use Rattle.std.specs.Prelude.{◌≡◌, cond, [], ◌+◌, ◌-◌, ◌*◌, ◌/◌, ◌%◌, ◌≤◌, ◌<◌, eqb, length};
 ghost use Rattle.rules.specs.Answer.{any};
 ghost use Rattle.rules.specs.Assigned.{routing_header};

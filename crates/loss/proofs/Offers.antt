@@ -1,6 +1,6 @@
 -- One offer: it stores at the place that serves and nowhere else; a refusal changes nothing; rows past the 256th are neither read nor
 -- changed.
-use Rattle.std.proofs.Common.{◌≡◌, ℕ, zero, suc, ◌+◌, ◌<◌, ◌≤◌, Bool, true, false, cond, not, ◌&&◌, eqb, ltb, ◌⊎◌, List, [], ◌∷◌, ◌++◌, length, set, sym, refl, ap, ◌∙◌, subst, inl, inr, ⊎_elim, true≢false, arith, length-append, length-set, get_or-set_other, get_or-set_same, ltb-false, eqb-true}
+use Rattle.std.proofs.Common.{◌≡◌, ℕ, zero, suc, ◌<◌, ◌≤◌, Bool, true, false, cond, not, ◌&&◌, eqb, ltb, ◌⊎◌, List, [], ◌∷◌, ◌++◌, length, set, sym, refl, ap, ◌∙◌, subst, inl, inr, ⊎_elim, true≢false, arith, length-append, length-set, get_or-set_other, get_or-set_same, ltb-false, eqb-true}
 use lib.ListN.{get_or-append}
 use lib.Seq.{set-get_or}
 use Rattle.rules.specs.Answer.{packed_fields}

@@ -1,5 +1,5 @@
 -- The second saying of an offer (specs/Told.antt) is the definition: both ways, for every row whose number has 16 bits.
-use Rattle.std.proofs.Common.{◌≡◌, ℕ, ◌+◌, ◌-◌, ◌%◌, ◌<◌, ◌≤◌, Bool, true, false, cond, not, ◌&&◌, eqb, ltb, ◌⊎◌, List, length, set, sym, refl, ap, ◌∙◌, subst, ⊎_elim, true≢false, eq-or-lt_of_le, arith, ltb-false, ltb-true, eq-eqb, ne_eqb, eqb-true}
+use Rattle.std.proofs.Common.{◌≡◌, ℕ, ◌+◌, ◌-◌, ◌%◌, ◌<◌, ◌≤◌, Bool, true, false, cond, not, ◌&&◌, eqb, ltb, List, length, set, sym, refl, ap, ◌∙◌, subst, ⊎_elim, true≢false, eq-or-lt_of_le, arith, ltb-false, ltb-true, eq-eqb, ne_eqb, eqb-true}
 use borrow.Author.Tests.{eqb-false}
 use Rattle.rules.specs.declared.Found.{Found}
 use Rattle.rules.specs.declared.Found.TheVariants.{At, Nothing}

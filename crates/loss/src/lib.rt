@@ -1,10 +1,12 @@
 // Lost sequence numbers (order 13): rows that the caller lends, one record for each TEID, and numbers offered in the order of arrival.
+#![tactic(auto)]
+
 ghost use Rattle.std.specs.Prelude.{◌≡◌, ◌<◌};
 ghost use Rattle.loss.specs.Loss.{signed_of, arrival_of, distance, counted, started, free, of_teid, used_of, offer};
 
 // A row is free where `seen` is 0.
 #[repr(C)]
-#[derive(Drop)]
+#[derive(Clone, Copy)]
 pub struct Row {
     pub teid: u32,
     pub first: u16,

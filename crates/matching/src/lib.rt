@@ -1,4 +1,6 @@
 // The longest match in a table: the entry, and the rule, with the longest prefix that an address lies under.
+#![tactic(auto)]
+
 ghost use Rattle.std.specs.Prelude.{◌≡◌, ◌+◌, ◌*◌, ◌≤◌, length};
 ghost use Rattle.rules.specs.Table.{rules_at, policies_at};
 ghost use Rattle.rules.specs.Match.{longer, entry_matches, entry_bits, rule_matches, rule_bits, match_entry, match_rule};

@@ -1,4 +1,6 @@
 // Numbers that stand in octets, most significant octet first. Flat, so that each compiles to one load.
+#![tactic(auto)]
+
 ghost use Rattle.std.specs.Prelude.{◌≡◌, ◌+◌, ◌≤◌, ◌<◌, length};
 ghost use Rattle.numbers.specs.Read.{Read};
 

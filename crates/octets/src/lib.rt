@@ -1,4 +1,6 @@
 // Octets of packets and buffers, read: where they lie, 0 past the end, or by value.
+#![tactic(auto)]
+
 ghost use Rattle.std.specs.Prelude.{◌≡◌, ◌+◌, ◌-◌, ◌*◌, ◌≤◌, ◌<◌, length, drop};
 ghost use Rattle.rules.specs.Octets.{octet, read16, window, splice};
 

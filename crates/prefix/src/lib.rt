@@ -1,5 +1,7 @@
 // Whether an address lies under a prefix, and whether the bits past a prefix are 0. Any number of bits is allowed: past those of an
 // address nothing changes.
+#![tactic(auto)]
+
 ghost use Rattle.std.specs.Prelude.{◌≡◌, ℕ, ◌+◌, ◌-◌, ◌*◌, ◌^◌, ◌%◌, ◌≤◌, ◌<◌, eqb, length};
 ghost use Rattle.rules.specs.Octets.{number};
 ghost use Rattle.rules.specs.Prefix.{under, clear};

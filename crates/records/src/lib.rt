@@ -1,4 +1,6 @@
 // The records of a table: the header's counts, each record as a part of the table's octets, and where its fields lie.
+#![tactic(auto)]
+
 ghost use Rattle.std.specs.Prelude.{◌≡◌, ◌+◌, ◌*◌, ◌≤◌, length};
 ghost use Rattle.rules.specs.Octets.{window, read16};
 ghost use Rattle.rules.specs.Table.{entries, rules, policies, rules_at, policies_at, table_size, entry_at, rule_at, policy_at};

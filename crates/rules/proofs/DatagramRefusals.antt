@@ -1,5 +1,5 @@
 -- The tests of rows 8 to 14, 17 and 18 that ask of a UDP datagram hold exactly where Refused.antt says that the number is given.
-use mathlib.Core.Path.{◌≡◌, refl, sym, ◌∙◌}
+use mathlib.Core.Path.{◌≡◌, sym, ◌∙◌}
 use mathlib.Core.Logic.{◌≢◌}
 use mathlib.Core.Bool.{Bool, true, false, not, ◌&&◌, false≢true}
 use mathlib.Core.List.{List, [], ◌∷◌}

@@ -19,7 +19,7 @@ use Rattle.rules.specs.Answer.{verdict, Decision, Sent, outcome}
 use Rattle.rules.specs.Header.{header}
 use Rattle.rules.specs.Datagram.{datagram, message_rows, g_pdu_rows}
 use Rattle.rules.specs.Carried.{carried6, carried4, datagram_in6, datagram_in4}
-use Rattle.rules.specs.Echo.{is_echo, echo_answer, echo_checksum, echo_reply6, echo_reply4}
+use Rattle.rules.specs.Echo.{echo_answer, echo_checksum, echo_reply6, echo_reply4}
 use Rattle.rules.specs.Gtp6D.{gtp6_rows, checksum_rows, gtp6d_rows, rows_gtp6d, rows_echo6, decide_g_pdu6, decide_echo6, decide_gtp6d}
 use Rattle.rules.specs.D4.{gtp4_rows, d4_rows, d4_packet, rows_d4, rows_echo4, decide_g_pdu4, decide_echo4, decide_d4}
 use Rattle.rules.specs.Written.{TrueChecksum, EchoFields, WrittenEcho6, WrittenEcho4}

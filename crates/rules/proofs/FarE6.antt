@@ -5,7 +5,6 @@ use mathlib.Core.List.{List, [], ◌∷◌, ◌++◌}
 use Prim.Native.Nat.{ℕ, ◌+◌, ◌-◌, ◌≤◌, ◌<◌}
 use native.Mathlib.Omega.{arith}
 use lib.ListN.{length, length-append}
-use Rattle.rules.specs.Octets.{octet}
 use Rattle.rules.specs.Assigned.{udp_protocol, routing_header, end_m_gtp6e}
 use Rattle.rules.specs.Table.{entry_at}
 use Rattle.rules.specs.Entry as Entry

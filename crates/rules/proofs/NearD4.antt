@@ -16,7 +16,6 @@ use Rattle.rules.specs.Ipv4 as Ipv4
 use Rattle.rules.specs.Ipv4.{ipv4}
 use Rattle.rules.specs.Gtpu as Gtpu
 use Rattle.rules.specs.Gtpu.{datagram_octets}
-use Rattle.rules.specs.Sound.{sound}
 use Rattle.rules.specs.Match.{match_rule}
 use Rattle.rules.specs.Answer.{Decision, Sent, unless, outcome}
 use Rattle.rules.specs.Datagram.{datagram, message_rows, g_pdu_rows, extended, bad_extensions}

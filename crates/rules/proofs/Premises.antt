@@ -5,7 +5,7 @@ use Prim.Native.Nat.{ℕ}
 use lib.Dec.{lit<, lit≤}
 use lib.ListN.{replicate}
 use Rattle.rules.specs.Assigned.{end, end_m_gtp6d, end_m_gtp6d_di}
-use Rattle.rules.specs.Trip.{Version, v4, v6, Stop, call}
+use Rattle.rules.specs.Trip.{Version, v4, v6, Stop}
 use Rattle.rules.specs.Demand3.{AtEntry, Matching, over6, over4, MatchingD}
 use Rattle.rules.proofs.Computing.{computing}
 use Rattle.rules.proofs.Samples.{sid_of, table, packet6, packet4, bytes-octets}

@@ -2,21 +2,20 @@
 -- ways to say so agree, and a change of one octet is seen.
 use mathlib.Core.Path.{◌≡◌, refl, sym, ap, ◌∙◌}
 use mathlib.Core.Logic.{◌≢◌, ◌⊎◌, inl, inr}
-use mathlib.Core.Bool.{Bool, true, false, cond}
+use mathlib.Core.Bool.{Bool, true, false}
 use mathlib.Core.List.{List, [], ◌∷◌, ◌++◌}
-use Prim.Native.Nat.{ℕ, zero, suc, ◌+◌, ◌-◌, ◌*◌, ◌/◌, ◌%◌, ◌^◌, ◌≤◌, ◌<◌}
+use Prim.Native.Nat.{ℕ, zero, suc, ◌+◌, ◌-◌, ◌*◌, ◌/◌, ◌%◌, ◌≤◌, ◌<◌}
 use native.Mathlib.Omega.{arith}
 use native.Mathlib.Decide.{ℕ_discrete}
 use lib.Dec.{ltb}
 use lib.ListN.{length, length-append}
 use borrow.Author.Tests.{ltb-true, ltb-false, eq-eqb, ne_eqb}
-use Rattle.rules.specs.Octets.{Octets, octet, read16, put16}
+use Rattle.rules.specs.Octets.{Octets, octet, put16}
 use Rattle.rules.specs.Assigned.{udp_protocol}
 use Rattle.rules.specs.Checksum.{ones_sum, word_sum, with_pseudo_header}
 use Rattle.rules.specs.Gtpu as Gtpu
 use Rattle.rules.specs.UdpChecksum.{or_ffff, udp_checksum6, udp_sum6, bad_checksum}
 use Rattle.rules.specs.Gtpu.{udp, gtpu}
-use Rattle.rules.specs.Answer.{differs}
 use Rattle.rules.specs.AddsUp.{words_of, words, total, AddsUp, OneChanged}
 use Rattle.rules.specs.Written.{TrueChecksum}
 use Rattle.rules.proofs.Checksums.{word_sum-append, fold, ones_sum-fold, octets-append, octets-each}
@@ -66,9 +65,9 @@ abbrev pub sum_with : (source destination : List ℕ) (next_header : ℕ) (upper
 sum_with source destination next_header upper = word_sum source + word_sum destination + length upper + next_header + word_sum upper
 
 module _ (s d : List ℕ) (next : ℕ) (u : List ℕ) (hs : length s ≡ 16) (hd : length d ≡ 16) (hn : next < 256) (hu : length u < 65536) where
-  pseudo_sum : word_sum (with_pseudo_header s d next u) ≡ sum_with s d next u
+  pseudo_sum_with : word_sum (with_pseudo_header s d next u) ≡ sum_with s d next u
   unfolding word_sum
-  pseudo_sum =
+  pseudo_sum_with =
       let n : ℕ = length u in
       let rest : List ℕ = put16 (n / 65536) (put16 (n % 65536) (0 ∷ 0 ∷ 0 ∷ next ∷ u)) in
       let a = word_sum-append s (d ++ rest) (omega arith) in
@@ -93,14 +92,18 @@ module _ (s d : List ℕ) (next : ℕ) (u : List ℕ) (hs : length s ≡ 16) (hd
 
     -- the sum, its carries added at the end
     pub pseudo_fold : ones_sum (with_pseudo_header s d next u) ≡ fold (sum_with s d next u)
-    pseudo_fold = ones_sum-fold (with_pseudo_header s d next u) pseudo_octets ∙ ap fold pseudo_sum
+    pseudo_fold = ones_sum-fold (with_pseudo_header s d next u) pseudo_octets ∙ ap fold pseudo_sum_with
 
 -- A DATAGRAM
 
+-- what is summed, as a plain number
 abbrev pub total_sum : (source destination u : List ℕ) → ℕ
-total_sum source destination u = sum_with source destination udp_protocol u
+total_sum source destination u = word_sum source + word_sum destination + length u + 17 + word_sum u
 
 module _ (s d u : List ℕ) (hs : length s ≡ 16) (hd : length d ≡ 16) (hu : length u < 65536) where
+  pub pseudo_sum : word_sum (with_pseudo_header s d udp_protocol u) ≡ total_sum s d u
+  pseudo_sum = pseudo_sum_with s d udp_protocol u hs hd (omega arith) hu
+
   pub total-sum : total s d u ≡ total_sum s d u
   total-sum = words_with s d udp_protocol u hs hd (omega arith) hu
 

@@ -6,11 +6,11 @@ use native.Mathlib.Omega.{arith}
 use lib.ListN.{length, take, drop, get_or}
 use lib.Seq.{take_at, drop-drop, take-append-add}
 use borrow.Author.Tests.{lt-ltb}
-use Rattle.rules.specs.Octets.{octet, window, splice}
+use Rattle.rules.specs.Octets.{window, splice}
 use Rattle.rules.specs.Assigned.{hop_by_hop, routing_header, fragment_header, destination_options, segment_routing}
 use Rattle.rules.specs.Ipv6 as Ipv6
 use Rattle.rules.specs.Ipv6.{ipv6}
-use Rattle.rules.specs.Srh.{segment, segments, srh}
+use Rattle.rules.specs.Srh.{segments, srh}
 use Rattle.rules.specs.Srv6.{srv6_payload}
 use Rattle.rules.specs.Header.{header, malformed}
 use Rattle.rules.specs.Waypoint.{with_routing, forwarded, waypoint_rows, step_rows}

@@ -1,19 +1,21 @@
 // The types that definitions and code share, the numbers that the standards assign, and the refusals, each made here under its name. What
 // they mean is in specs/.
+#![tactic(auto)]
+
 ghost use Rattle.std.specs.Prelude.{◌≡◌, []};
 ghost use Rattle.rules.specs.Answer.{plain, hop_limit_row, segments_left_row, upper_layer_row};
 
 pub mod assigned; // assigned.rt: numbers that the standards assign
 
 // A record of a table, by its number, or none.
-#[derive(Drop)]
+#[derive(Clone, Copy)]
 pub enum Found {
     At(usize),
     Nothing,
 }
 
 // An answer number other than 0, with its ICMP fields.
-#[derive(Drop)]
+#[derive(Clone, Copy)]
 pub struct Refusal {
     pub number: u8,
     pub icmpType: u8,
@@ -198,14 +200,14 @@ impl Refusal {
 }
 
 // What rows of the answer table say of a packet.
-#[derive(Drop)]
+#[derive(Clone, Copy)]
 pub enum Verdict {
     Pass,
     Refuse(Refusal),
 }
 
 // What the rows ask of an arriving IPv6 packet: its first header, the SRH behind it if there is one, and the upper layer behind these.
-#[derive(Drop)]
+#[derive(Clone, Copy)]
 pub struct Header {
     pub size: usize,
     pub version: u8,
@@ -222,7 +224,7 @@ pub struct Header {
 }
 
 // What the rows ask of an arriving IPv4 packet.
-#[derive(Drop)]
+#[derive(Clone, Copy)]
 pub struct Header4 {
     pub size: usize,
     pub version: u8,
@@ -235,7 +237,7 @@ pub struct Header4 {
 }
 
 // What the rows ask of a UDP datagram and the GTP-U message in it.
-#[derive(Drop)]
+#[derive(Clone, Copy)]
 pub struct Datagram {
     pub size: usize,
     pub destinationPort: u16,

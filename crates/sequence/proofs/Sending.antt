@@ -20,7 +20,7 @@ use Rattle.rules.specs.Carried.{carried_by, carried6, carried4, datagram_in6, da
 use Rattle.rules.specs.Gtp6D.{gtp6_rows, checksum_rows, gtp6d_rows, rows_gtp6d, decide_gtp6d}
 use Rattle.rules.specs.D.{d_path, d_packet, at_d}
 use Rattle.rules.specs.Di.{di_path, di_packet, at_di}
-use Rattle.rules.specs.D4.{gtp4_rows, d4_rows, rows_d4, d4_packet, at_d4}
+use Rattle.rules.specs.D4.{gtp4_rows, d4_rows, rows_d4, d4_packet}
 use Rattle.rules.specs.Header4.{header4, malformed4, bad_header4}
 use Rattle.rules.specs.Calls.{at_entry, at_found_entry, at_found_rule, front_rows6, front_rows4, translate6, translate4}
 use Rattle.rules.specs.declared.Verdict.TheVariants.{Pass}

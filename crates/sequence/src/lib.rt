@@ -1,5 +1,7 @@
 // TEID and sequence number of a packet as it arrives, for the report of lost packets. Every test is one of the base's; no table is asked,
 // and nothing is copied but the headers.
+#![tactic(auto)]
+
 ghost use Rattle.std.specs.Prelude.{◌≡◌, ◌+◌, ◌*◌, ◌/◌, ◌%◌, ◌<◌, eqb, drop};
 ghost use Rattle.rules.specs.Octets.{number};
 ghost use Rattle.sequence.specs.Sequence.{found, sequence6, sequence4};

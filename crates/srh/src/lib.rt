@@ -1,4 +1,6 @@
 // The Segment Routing Header (RFC 8754) and the routing state of a packet (RFC 8986, 4.1).
+#![tactic(auto)]
+
 ghost use Rattle.std.specs.Prelude.{◌≡◌, [], ◌∷◌, ◌+◌, ◌-◌, ◌*◌, ◌≤◌, length, leb, ltb, not};
 ghost use Rattle.rules.specs.Answer.{any, given, verdict};
 ghost use Rattle.rules.specs.Header.{beyond_held};
@@ -10,14 +12,14 @@ ghost use Rattle.copying.specs.Run.{Run};
 ghost use Rattle.srh.specs.State.{word_octets, address_octets, state, NextOrRefused};
 
 // An address as two words, since an enum holds no array. A word's lowest octet stands first, so that a word is one load and one store.
-#[derive(Drop)]
+#[derive(Clone, Copy)]
 pub struct Address {
     pub first: u64,
     pub second: u64,
 }
 
 // Segments Left, hop limit and destination: what a waypoint takes and hands back.
-#[derive(Drop)]
+#[derive(Clone, Copy)]
 pub struct Routing {
     pub segmentsLeft: u8,
     pub hopLimit: u8,
@@ -25,7 +27,7 @@ pub struct Routing {
 }
 
 // What a step hands back: the next state, or a refusal.
-#[derive(Drop)]
+#[derive(Clone, Copy)]
 pub enum Stepped {
     Next(Routing),
     Refused(rules::Refusal),

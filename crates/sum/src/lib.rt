@@ -1,5 +1,7 @@
 // The sum of the 16-bit words of octets (RFC 1071), modulo 65,535. Modulo 65,535 a carry out of 16 bits counts as 1, so that words may be
 // added 32 bits at a time, and 256 times a word is the word with its octets exchanged, so that they may be added as they lie.
+#![tactic(auto)]
+
 ghost use Rattle.std.specs.Prelude.{◌≡◌, ◌+◌, ◌*◌, ◌/◌, ◌%◌, ◌≤◌, ◌<◌, length};
 ghost use Rattle.rules.specs.Checksum.{word_sum};
 ghost use Rattle.sum.specs.Adding.{Four, Before};

@@ -1,4 +1,6 @@
 // The UDP checksum over IPv6 (RFC 8200, 8.1): the one that is sent, and whether one that arrived is wrong.
+#![tactic(auto)]
+
 ghost use Rattle.std.specs.Prelude.{◌≡◌, ◌++◌, ◌+◌, ◌-◌, ◌*◌, ◌%◌, ◌≤◌, ◌<◌, length, drop};
 ghost use Rattle.rules.specs.Octets.{Octets, window};
 ghost use Rattle.rules.specs.Checksum.{word_sum};

@@ -1,4 +1,6 @@
 // The waypoint: End (RFC 8986, 4.1).
+#![tactic(auto)]
+
 ghost use Rattle.std.specs.Prelude.{◌≡◌, ◌+◌, ◌-◌, ◌*◌, ◌≤◌, length};
 ghost use Rattle.rules.specs.Octets.{window};
 ghost use Rattle.rules.specs.Answer.{settle};

@@ -1,0 +1,23 @@
+use mathlib.Core.Path.{◌≡◌, sym, ◌∙◌}
+use mathlib.Core.List.{List}
+use Prim.Native.Nat.{ℕ, ◌*◌}
+use Rattle.rules.specs.Octets.{octet}
+use Rattle.rules.specs.Sound.{sid_prefix_clear, source_prefix_clear}
+use Rattle.conditions.proofs.Surely.{clear-words, sound-rule}
+use Rattle.conditions.proofs.rule.surely_sound.Goals as goal
+
+pub returns : goal.returns
+returns c = λ q.
+    let c₃ = c in
+    let w = c₃ in
+    let c₂ = w in
+    let c₁ = c₂ in
+    let r : List ℕ = c₁.args.r.now in
+    let sid : w.words_clear.result ≡ sid_prefix_clear r =
+    clear-words r 16 (8 * octet r 4) (rw (← w.wide-p.ensures.0) w.words_clear.ensures)
+    w.eight.ensures.value w.eight-2.ensures.value in
+    let source : c.words_clear-2.result ≡ source_prefix_clear r =
+    clear-words r 32 (8 * octet r 5) (rw (← c.wide-q.ensures.0) c.words_clear-2.ensures)
+    c.eight-3.ensures.value c.eight-4.ensures.value in
+    sound-rule r (c₁.octets_sound.ensures (c₁.if-not-octets_sound.false))
+    (sym c₂.prefix_clear.ensures ∙ c₂.if-not-prefix_clear.false) (sym sid ∙ c₃.if-not-words_clear.false) (sym source ∙ q)

@@ -1,0 +1,14 @@
+use mathlib.Core.Path.{refl, ◌∙◌}
+use native.Mathlib.Omega.{arith}
+use Rattle.octets.proofs.Windows.{part_window, rest-window}
+use Rattle.octets.proofs.window24.Goals as goal
+
+pub returns-then-saturating_sub-lt24 : goal.returns-then-saturating_sub-lt24
+returns-then-saturating_sub-lt24 c =
+    let a = c.args in
+    c.copy_rest.ensures ∙ rest-window a.s.now a.at 24 (omega arith)
+
+pub returns : goal.returns
+returns c =
+    let a = c.args in
+    c.copy_octets.ensures ∙ part_window _ a.s.now a.at 24 refl (omega arith)

@@ -1,0 +1,6 @@
+use Rattle.rules.specs.Table.{rule_at}
+use Rattle.records.proofs.rule_from.Goals as goal
+
+pub returns : goal.returns
+unfolding rule_at
+returns c = rw (← c.requires.0) c.part.ensures

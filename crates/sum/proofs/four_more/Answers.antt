@@ -1,0 +1,10 @@
+use mathlib.Core.Path.{refl}
+use native.Mathlib.Omega.{arith}
+use Rattle.sum.proofs.Laws.{before_as, before_four}
+use Rattle.sum.proofs.four_more.Goals as goal
+
+pub returns : goal.returns
+returns c =
+    let a = c in
+    let w = c.four in
+    before_as (before_four a.args.s.now _ _ a.requires.1 w.result w.ensures _ refl (omega arith)) (omega arith) refl

@@ -1,0 +1,34 @@
+use mathlib.Core.Path.{◌≡◌, ap, ◌∙◌}
+use mathlib.Core.List.{List}
+use Prim.Native.Nat.{ℕ, ◌+◌, ◌%◌}
+use native.Mathlib.Omega.{arith}
+use lib.ListN.{length}
+use borrow.Kind.Array.{e_int, good_length}
+use mir.Syntax.{w8}
+use Rattle.rules.specs.Octets.{Octets}
+use Rattle.rules.specs.Checksum.{word_sum}
+use Rattle.rules.proofs.UdpChecksums.{total_sum}
+use Rattle.sum.proofs.Parts.{array_octets, parts_mod}
+use Rattle.udp.proofs.Laws.{total-checksum}
+use Rattle.udp.proofs.checksum_of.Goals as goal
+
+pub returns : goal.returns
+returns c =
+    let k = c in
+    let g = k.well_formed in
+    let a = k.args in
+    let u : List ℕ = a.datagram.now in
+    let lf = good_length (e_int w8) 16 a.from _ g.0 in
+    let lt = good_length (e_int w8) 16 a.to _ g.1.0 in
+    let ou : Octets u = λ i. (k.type_inv.datagram i).fits in
+    let x = c.unreduced_address in
+    let y = c.unreduced_address-2 in
+    let z = c.unreduced in
+    let n : ℕ = length u + 17 in
+    let m = parts_mod x.result y.result z.result (word_sum a.from) (word_sum a.to) (word_sum u) n x.ensures.0
+    y.ensures.0 z.ensures.0 in
+    let p : x.result + y.result + length u + 17 + z.result ≡ x.result + y.result + z.result + n = omega arith in
+    let q : word_sum a.from + word_sum a.to + word_sum u + n ≡ total_sum a.from a.to u = omega arith in
+    c.complement.ensures
+    ∙ total-checksum a.from a.to u _ lf lt k.requires (array_octets 16 a.from _ g.0) (array_octets 16 a.to _ g.1.0)
+    ou (ap (λ (n : ℕ). n % 65535) p ∙ m ∙ ap (λ (n : ℕ). n % 65535) q)
