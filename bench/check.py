@@ -1,5 +1,5 @@
 #!/usr/bin/env python3
-"""check.py ROOT: what the check of each crate takes, in seconds and memory, one at a time and from nothing, in a copy of ROOT. The check of a
+"""check.py ROOT: what the check of each crate takes, in seconds and memory, one at a time and from nothing, in a copy of ROOT. That of a
 library makes what the crates above it load, too."""
 import os
 import pathlib
@@ -19,7 +19,7 @@ def crates(root):
 
 
 def copy(root, to):
-    """A copy whose checks begin with nothing: rt would take the work that a check of the same text, or of another, has kept on this machine."""
+    """A copy whose checks begin with nothing: rt would take the work that an earlier check has kept anywhere on this machine."""
     shutil.copy(root / "crates.txt", to)
     shutil.copytree(root / "crates", to / "crates", ignore=shutil.ignore_patterns("out"))
     for _, crate in crates(to):
