@@ -19,25 +19,29 @@ all: prove
 
 # prove every crate that changed since it was last proved
 prove: toolchain
-	rt check
+	rt all check
 
 # The quick tests, for a change that is being made: the linters, the library's crates that changed since they were last proved, the C
 # tests, the second program and its vectors. Not the verdict: nothing is proved from nothing, and no must-fail edit is tried.
 check: toolchain check-packages make-test lint check-proofs library
 	@echo "check: all quick tests hold; the gate is 'make test'"
 
+# the crate of the exported functions, and those below it as far as they changed
 check-proofs: toolchain
-	rt check kawsarpa
+	cd crates/kawsarpa && rt check
 
-# Everything. The library is built from what `rt ci` proved, so that is first; its count of what passed is said again at the end, and
+# Everything. The library is built only of proved crates, so `rt ci` is first; its count of what passed is said again at the end, and
 # before it whether this is another toolchain than that of rt.version.
 test: toolchain test-packages make-test format lint second ci refusers library programs boundary tool-test install-test
 	@tests/make/toolchain.sh
 	@tail -n 1 target/ci.log
 
-# every proof from nothing, and the must-fail edits; `rt ci` removes target/, so its output goes there afterwards
+# every proof from nothing, the must-fail edits, the two programs; an edit that says nothing of a contract fails here, though not in `rt ci`
 ci: toolchain
-	log=$$(mktemp); trap 'rm -f "$$log"' EXIT; rt ci | tee "$$log"; cp "$$log" target/ci.log
+	mkdir -p target
+	rt ci | tee target/ci.log
+	@grep -q '^rt: ok' target/ci.log || { echo "ci: rt ci has no line 'rt: ok'" >&2; exit 1; }
+	@! grep -E '^rt: ok.*, [0-9]+ bad' target/ci.log >&2 || { echo "ci: bad must-fail edits" >&2; exit 1; }
 
 # the proofs were checked with the toolchain that rt.version names; another one is told, and used
 toolchain:
@@ -69,9 +73,8 @@ test-packages:
 	$(call install,git:git gcc:gcc g++:g++ nm:binutils cargo:cargo valgrind:valgrind mandoc:mandoc pkg-config:pkg-config jq:jq \
 	  $(tool_needs))
 
-# the layout of the sources, and that what the documents list is there
+# that what the documents list is there; the layout of the crates is judged by `rt ci`, which refuses any but that of `rt fmt`
 format:
-	rt fmt --check
 	tests/docs.sh
 
 # what shellcheck, clang-format, rustfmt and clippy say of the sources that are not Rattle's, and that a finding is a failure
@@ -83,7 +86,7 @@ lint: lint-packages
 lint-packages:
 	$(call install,git:git shellcheck:shellcheck clang-format:clang-format gcc:gcc cargo:cargo rustfmt:rustfmt cargo-clippy:rust-clippy)
 
-# what refuses each must-fail edit is what docs/MUST-FAIL.md says, by the logs that `rt ci` left: so behind `ci`
+# what refuses each must-fail edit is what docs/MUST-FAIL.md says, by what `rt ci` printed: so behind `ci`
 refusers: test-packages
 	tests/docs.sh refusers
 
@@ -91,8 +94,10 @@ refusers: test-packages
 second:
 	cd tests/second && cargo test --release --offline --quiet && cargo run --release --offline --quiet -- worked
 
+# the archive is left as it is where it did not change, so that nothing is linked again
 staticlib: toolchain
-	rt staticlib kawsarpa
+	cd crates/kawsarpa && rt lib
+	@cmp -s crates/kawsarpa/out/libkawsarpa.a $(archive) || install -D -m 644 crates/kawsarpa/out/libkawsarpa.a $(archive)
 
 # the header, and the exported functions called from C, also by the example of README.md and with cases of the second program
 library: second staticlib
@@ -102,9 +107,10 @@ library: second staticlib
 
 # the two programs; `worked` is given cases of the second program
 programs: second
-	rt check empty_table worked
-	tests/program/empty_table.sh target/bin/empty_table
-	tests/program/worked.sh $(second)
+	cd crates/empty_table && rt run </dev/null | cmp - stdout
+	cd crates/worked && rt run <stdin | cmp - stdout
+	tests/program/empty_table.sh crates/empty_table/out/empty_table
+	tests/program/worked.sh $(second) crates/worked/out/worked
 
 # the library judged by the second program: a million cases, trips, threads, stack, valgrind
 boundary: staticlib
@@ -242,4 +248,4 @@ bench-packages:
 	$(call install,gcc:gcc nm:binutils cargo:cargo valgrind:valgrind /usr/include/valgrind/callgrind.h:valgrind python3:python3)
 
 clean:
-	rm -rf target tests/second/target tests/boundary/target
+	rm -rf target crates/*/out tests/second/target tests/boundary/target

@@ -2,7 +2,7 @@
 # docs.sh: what the documents list is there. The must-fail edits of docs/MUST-FAIL.md are those of the crates, with their first lines; names
 # in docs/RULES.md and docs/STATEMENTS.md stand in the crates; every crate of crates.txt is told in docs/ARCHITECTURE.md; links between
 # documents lead to files; lines keep to their columns.
-# docs.sh refusers: what refuses each of these edits, by the logs of `rt ci`, is what docs/MUST-FAIL.md says.
+# docs.sh refusers: what refuses each of these edits, by what `rt ci` printed, is what docs/MUST-FAIL.md says.
 set -eu -o pipefail
 export LC_ALL=C
 cd "$(dirname "$0")/.."
@@ -20,7 +20,7 @@ trap 'rm -rf "$work"' EXIT
 python3 -B tests/refusers.py --listed
 python3 -B tests/documents.py
 
-sed -n 's/^\([a-z0-9_]*\):.*/\1/p' crates.txt >"$work/crates"
+sed -n 's/^\([a-z0-9_]*\)\( staticlib\)\{0,1\}:.*/\1/p' crates.txt >"$work/crates"
 while read -r crate; do
     if ! grep -q "^- \`$crate\`: " docs/ARCHITECTURE.md; then
         echo "docs.sh: docs/ARCHITECTURE.md does not tell the crate $crate" >&2

@@ -1,27 +1,23 @@
 #!/usr/bin/env python3
-"""refusers.py: which law or function refuses each must-fail edit, read from the logs that `rt must-fail` and `rt ci`
-leave in target/must-fail/CRATE/EDIT/.log.
+"""refusers.py: which law or function refuses each must-fail edit, by the line that `rt ci` and `rt must-fail` print of it:
 
-The first error of a log is often a line of a proof that spells the old term out, while its law may still be true. What
-rules an edit out is the first declaration that the checker shows to be false:
+  rt: must-fail CRATE/EDIT.edit: refused, as it must be: PLACE: ...
 
-  false     `omega` shows values at which the goal fails; or a claim that only has to be computed comes out otherwise
-            (`T (...)` that is no truth, two different numbers that should be equal, `refl` in a law without parameters)
-  unproved  `omega`, `search` or `cc` finds no proof, and no values at which the goal fails
-  differs   what is to be proved and what the proof has differ in an open term, or the proof's text no longer fits; an
-            error of this kind does not tell which of the two it is
+PLACE is that of the first thing that the prover says of the edited crate, and its declaration is what is told here: a law
+with its file, or the function whose contract, or whose proof, it is. More of what the prover said is not printed, so
+neither is whether it found values at which the law or the contract is false. Two marks tell of a refusal that shows less:
 
-The first false one is told; without any, the first unproved one, and without that the first that differs, each with a
-mark.
-Errors that follow from others ("was not admitted") never count, nor do those of a declaration that the checker admits
-in a trial run with more definitions unfolded: its law is true.
+  names  a proof file names what the edit took away, and that is all that was refused
+  limit  the prover met a limit of its own, and gave no verdict
 
-  refusers.py            prints crate, edit and refuser of every log
-  refusers.py --explain  so, and the kind and place of the error that decided
-  refusers.py --write    makes the list of docs/MUST-FAIL.md anew from the edits of the crates and their logs; where there
-                         is no log, the refuser stays
+  refusers.py            prints crate, edit and refuser of every line
+  refusers.py --explain  so, and the line's last part
+  refusers.py --write    makes the list of docs/MUST-FAIL.md anew from the edits of the crates and these lines; where there
+                         is no line, the refuser stays
   refusers.py --listed   compares the edits and slips of that list with those of the crates, without a log
-  refusers.py --check    so, and the refusers with the logs; ends with status 1 where they differ
+  refusers.py --check    so, and the refusers with the lines; ends with status 1 where they differ, or an edit has none
+
+The lines are read from target/ci.log, where `make ci` leaves what `rt ci` prints, or from the files that --log names.
 """
 import argparse
 import collections
@@ -32,15 +28,13 @@ import textwrap
 
 ROOT = pathlib.Path(__file__).resolve().parent.parent
 LIST = pathlib.Path("docs/MUST-FAIL.md")
+LOG = pathlib.Path("target/ci.log")
 LIST_BEGINS = "<!-- the edits -->"
 CRATE = re.compile(r"## ([a-z0-9_]+)")
 ITEM = re.compile(r"- `([a-z0-9_]+)`: (.*?) Refused by (.*)")
 COLUMNS = 120
 
-FALSE, UNPROVED, DIFFERS = "false", "unproved", "differs"
-
-Error = collections.namedtuple("Error", "file line function name text")
-Refuser = collections.namedtuple("Refuser", ("cell", "kind") + Error._fields)
+Refuser = collections.namedtuple("Refuser", "cell text")
 
 
 class Fault(Exception):
@@ -49,151 +43,35 @@ class Fault(Exception):
 
 # ---- a log
 
-# An error or a note with its place. Where a function has no proof file, notes tell the same of the proof that is made
-# for it: what that proof lacks, and what the checker said of it.
-ENTRIES = (
-    re.compile(r"(?P<file>\S.*?):(?P<line>\d+):\d+: (?P<word>error|note): (?P<text>.*)"),
-    re.compile(r"note: (?P<file>\S.*?):(?P<line>\d+):\d+: (?P<text>it is not proved that .*)"),
-    re.compile(
-        r"note: what antt said of .*? in the proof that rattle made: "
-        r"(?P<file>\S.*?):(?P<line>\d+):\d+: (?:(?P<word>note): )?(?P<text>.*)"
-    ),
-)
+LINE = re.compile(r"rt: must-fail (?P<crate>[a-z0-9_]+)/(?P<edit>[\w.-]+)\.edit: (?P<text>.*)")
+REFUSED = re.compile(r"refused, as it must be(?: \(only (?P<only>[^)]*)\))?(?:: (?P<said>.*))?")
+SAID = re.compile(r"(?:note: )?(?:\./)?(?P<file>(?:src|specs|proofs)/\S+?):(?P<line>\d+):\d+: (?:\w+: )?(?:`(?P<name>[^`]*)`: )?.*")
+MARKS = {"because a proof file names": "names", "by a limit of the prover": "limit"}
 
 
-def entries(log, crate, edit):
-    """The errors and notes of a log in its order, each with the indented lines behind it: (word, file, line, text). The
-    file is named from the edited copy's folder on, wherever that lay."""
-    begun = None
-    for line in log.splitlines():
-        if begun and line.startswith("  "):
-            begun[3] += " " + line.strip()
-            continue
-        if begun:
-            yield tuple(begun)
-        found = next(filter(None, (entry.match(line) for entry in reversed(ENTRIES))), None)
-        if found:
-            word = found.groupdict().get("word") or "error"
-            file = found["file"].rpartition(f"/must-fail/{crate}/{edit}/")[2]
-            begun = [word, file, int(found["line"]), found["text"]]
-        else:
-            begun = None
-    if begun:
-        yield tuple(begun)
-
-
-# ---- what an error shows
-
-# values that are equal only where they are the same word: numerals, and constructors without arguments
-VALUE = re.compile(r"\d+|(?:[\w·]+\.)*(?:true|false|\[\]|tt)")
-
-
-def different(left, right):
-    """Both are values, and not the same one."""
-    return bool(VALUE.fullmatch(left) and VALUE.fullmatch(right)) and left.split(".")[-1] != right.split(".")[-1]
-
-
-def arguments(term):
-    """The words of a term that stand beside each other: `Path ℕ (f x) 0` has four."""
-    words, depth, word = [], 0, ""
-    for sign in term + " ":
-        depth += (sign in "([{") - (sign in ")]}")
-        if sign == " " and depth == 0:
-            words += [word] if word else []
-            word = ""
-        else:
-            word += sign
-    return words
-
-
-def bare(term):
-    """A term without the parentheses around the whole of it."""
-    while term.startswith("(") and term.endswith(")") and len(arguments(term)) == 1:
-        term = term[1:-1]
-    return term
-
-
-def closed(term):
-    """No variable can stand in it: every name is a library's in full, or one of these."""
-    names = re.findall(r"[^\s(){}\[\],∷]+", term)
-    known = {"Path", "ℕ", "Bool", "List", "true", "false", "suc", "zero", "+", "-", "*", "/", "%", "++"}
-    return all(name in known or name.isdigit() or re.fullmatch(r"[A-Za-z][\w·]*(\.[^\s.]+)+", name) for name in names)
-
-
-def refuted(type_):
-    """`Path A x y` of two different values, or ⊥: what is to be proved, computed, is false."""
-    if type_.split(".")[-1] == "⊥":
-        return True
-    words = arguments(type_)
-    return len(words) == 4 and words[0].split(".")[-1] == "Path" and different(bare(words[2]), bare(words[3]))
-
-
-def sides(type_):
-    """The two sides of an equation as printed, or nothing."""
-    words = arguments(type_)
-    if words and re.fullmatch(r"(?:\S+\.)?_≡_", words[0]):
-        words = [bare(word) for word in words[1:] if not word.startswith("{")]
-        return tuple(words) if len(words) == 2 else None
-    if words.count("≡") == 1:
-        at = words.index("≡")
-        return " ".join(words[:at]), " ".join(words[at + 1 :])
-    return None
-
-
-NO_PROOF = r"`omega` found no proof|`\w+`: no proof of .* was found|`cc`[^`]*\bjoin|^it is not proved that "
-UNIT_FOR_T = (
-    r"expected type `(?:[^` ]+\.)?T [^`]*`,? but this has type `(?:[^` ]+\.)?Unit\b"
-    r"|`(?:[^` ]+\.)?Unit\b[^`]*` ≟ `(?:[^` ]+\.)?T [^`]*` does not hold"
-)
-DIFFER = (
-    r"computed as far as they go, the two types differ only where "
-    r"one has `([^`]*)` \(expected\) and the other has `([^`]*)` \(found\)"
-)
-
-
-def kind_of(text, parameters):
-    """What an error shows of its declaration, or nothing where it follows from another; `parameters` says whether the
-    declaration has any."""
-    if re.search(r"\bwas not admitted\b.*\bso this cannot be checked", text):
-        return None
-    # `omega` has values for what it read: of the goal, of a part of it, of what a rule asks for it
-    if re.search(r"`omega`.*\bAll of that holds, and [^`]{1,40} fails, at ", text):
-        return FALSE
-    if re.search(NO_PROOF, text):
-        return UNPROVED
-
-    # both types, computed as far as they go
-    computed = re.search(r"the two types are `([^`]*)` \(expected\)", text)
-    if computed and refuted(computed[1]):
-        return FALSE
-    # `rw` leaves a path that is to hold by computing
-    left = re.search(r"must be a path whose two ends are equal, and `([^`]*)` is none", text)
-    if left and closed(left[1]):
-        return FALSE
-
-    # `tt` for a claim that is computed. Where its value is shown, that was ⊥ above, or is no value yet.
-    if not parameters and not computed and re.search(UNIT_FOR_T, text):
-        return FALSE
-    # `refl`, whose type has one side twice
-    expected = re.search(r"expected type `([^`]*)`", text)
-    found = re.search(r"but this has type `([^`]*)`", text)
-    ends = sides(found[1]) if expected and found else None
-    if ends and ends[0] == ends[1] and "bytes]" not in found[1]:
-        differ = re.search(DIFFER, text)
-        if differ and different(bare(differ[1]), bare(differ[2])) and expected[1].endswith("∷ []"):
-            return FALSE  # two numbers in a list that is spelled out to its end
-        if not parameters:
-            return FALSE
-    return DIFFERS
+def lines_of(logs):
+    """What the logs say of each edit, by crate and name; of two lines the later one."""
+    found = {}
+    for log in logs:
+        try:
+            text = log.read_text(errors="replace")
+        except FileNotFoundError:
+            raise Fault(f"no {log}: `make ci` leaves there what `rt ci` prints") from None
+        for line in map(LINE.fullmatch, text.splitlines()):
+            if line:
+                found[line["crate"], line["edit"]] = line["text"]
+    if not found:
+        raise Fault(f"no line of a must-fail edit in {', '.join(map(str, logs))}")
+    return found
 
 
 # ---- which declaration refuses
 
 
-def function_at(copy, file, line):
-    """The function whose text has this line, or begins behind the attributes at it; after its module and type."""
+def function_at(source, line):
+    """The function whose text has this line, or begins behind the attributes at it; after its type."""
     within, fitting = "", ""
-    for number, text in enumerate((copy / file).read_text().splitlines(), 1):
+    for number, text in enumerate(source.splitlines(), 1):
         begins = re.match(r"impl(?:<[^>]*>)? (\w+)|}", text)
         if begins:
             within = begins[1] or ""
@@ -202,65 +80,33 @@ def function_at(copy, file, line):
             fitting = "::".join(filter(None, (within, header[1])))
         if number >= line and fitting and not re.match(r"\s*(?:#|//|$)", text):
             break
-    module = file.removeprefix("src/").removesuffix(".rt").split("/")
-    return "::".join([part for part in module if part not in ("lib", "main", "mod")] + [fitting])
+    return fitting
 
 
-def has_parameters(copy, file, name):
-    """Whether a law takes arguments, by its type and its definition. One that does not stand at the margin belongs to a
-    module with parameters or to another law, and those of a function's proof speak of its arguments."""
-    if file.count("/") != 1:
-        return True
-    try:
-        lines = (copy / file).read_text().splitlines()
-    except OSError:
-        return True
-    law, signature, defined, within = re.escape(name), "", False, False
-    for line in lines:
-        within = bool(re.match(rf"(?:pub )?{law} :(?: |$)", line)) or (within and line.startswith(" "))
-        signature += line.partition("--")[0] if within else ""
-        defined = defined or bool(re.match(rf"{law} =(?! *λ)", line))
-    return not (signature and defined) or "→" in signature
+def declaration(root, crate, said):
+    """The law with its file, or the function, that stands at a place. An edit changes no number of a line."""
+    *folders, file = said["file"].split("/")
+    if folders[0] == "src":
+        module = "/".join([*folders[1:], file.removesuffix(".rt")]).split("/")
+        function = function_at((root / "crates" / crate / said["file"]).read_text(), int(said["line"]))
+        return "`" + "::".join([part for part in module if part not in ("lib", "main", "mod")] + [function]) + "`"
+    if folders[1:]:
+        return "`" + "::".join(folders[1:]) + "`"  # the proof of a function
+    return f"`{said['name']}` (`{file}`)" if said["name"] else f"`{file}`"
 
 
-def refuser(copy, crate, edit):
-    """The declaration that rules an edit out, by the log in the edited copy."""
-    try:
-        log = (copy / ".log").read_text(errors="replace")
-    except FileNotFoundError:
-        raise Fault("it has no log") from None
-    if not re.search(r"^logic=not-proved\b", log, re.MULTILINE):
-        raise Fault("its log does not say that the crate is not proved")
-    errors, true = [], set()
-    for word, file, line, text in entries(log, crate, edit):
-        function = function_at(copy, file, line) if file.startswith("src/") else ""
-        if word == "error":
-            name, _, words = re.fullmatch(r"(?:`([^`]*)`(: ))?(.*)", text).groups(default="")
-            errors.append(Error(file, line, function, name, words))
-        elif re.search(r"\btrial runs? of this declaration was admitted\b", text):
-            true.add((file, function, text.rpartition("(in `")[2].removesuffix("`)")))
-    first = {}
-    for error in errors:
-        kind = kind_of(error.text, has_parameters(copy, error.file, error.name))
-        if kind and (error.file, error.function, error.name) in true:
-            kind = DIFFERS
-        if kind:
-            first.setdefault(kind, error)
-    for kind in (FALSE, UNPROVED, DIFFERS):
-        if kind in first:
-            return Refuser(cell_of(first[kind], kind), kind, *first[kind])
-    raise Fault("its log has no error but those that follow from others")
-
-
-def cell_of(error, kind):
-    """The table's last column: a law with its file, or a function; and a mark where no false fact is shown."""
-    *folders, file = error.file.split("/")
-    function = error.function or "::".join(folders[1:])
-    if function:
-        cell = f"`{function}`"
-    else:
-        cell = f"`{error.name}` (`{file}`)" if error.name else f"`{file}`"
-    return cell if kind == FALSE else f"{cell}, {kind}"
+def refuser(root, crate, edit, lines):
+    """The declaration that refuses an edit, by its line."""
+    if (crate, edit) not in lines:
+        raise Fault("no line tells of it")
+    refused = REFUSED.fullmatch(lines[crate, edit])
+    if not refused:
+        raise Fault(lines[crate, edit])
+    said = SAID.fullmatch(refused["said"] or "")
+    if not said:
+        raise Fault(f"its line names no place: {lines[crate, edit]}")
+    marks = [mark for words, mark in MARKS.items() if (refused["only"] or "").startswith(words)]
+    return Refuser(", ".join([declaration(root, crate, said), *marks]), refused["said"])
 
 
 # ---- the list
@@ -304,21 +150,13 @@ def edits(root):
     return {(crate, edit): file.read_text().partition("\n")[0] for crate, edit, file in files}
 
 
-def edits_with_logs(logs):
-    """The edits that were tried, crate by crate."""
-    found = sorted((log.parent.parent.name, log.parent.name) for log in logs.glob("*/*/.log"))
-    if not found:
-        raise Fault(f"no logs in {logs}: `rt ci` makes those of all edits, `rt must-fail CRATE` those of a crate")
-    return found
-
-
 def write(root, logs):
     before, old = listed(root)
-    edits_with_logs(logs)
+    lines = lines_of(logs)
     new, kept = {}, 0
     for (crate, edit), slip in edits(root).items():
         try:
-            cell = refuser(logs / crate / edit, crate, edit).cell
+            cell = refuser(root, crate, edit, lines).cell
         except Fault as fault:
             _, cell = old.get((crate, edit), (slip, "-"))
             tell(f"{crate}/{edit}: its refuser stays {cell}: {fault}")
@@ -327,7 +165,7 @@ def write(root, logs):
     changed = sum(old.get(key) != item for key, item in new.items()) + len(old.keys() - new.keys())
     if changed:
         (root / LIST).write_text(before + render(new))
-    print(f"refusers: {len(new)} must-fail edits, {changed} of {LIST} changed, {kept} stay for want of a log")
+    print(f"refusers: {len(new)} must-fail edits, {changed} of {LIST} changed, {kept} stay for want of a line")
 
 
 def check_listed(root):
@@ -349,50 +187,46 @@ def check_listed(root):
 
 def check(root, logs):
     items = check_listed(root)
-    edits_with_logs(logs)
+    lines = lines_of(logs)
     differ = silent = 0
     for (crate, edit), (_, said) in items.items():
         try:
-            seen = refuser(logs / crate / edit, crate, edit)
+            seen = refuser(root, crate, edit, lines)
         except Fault as fault:
             tell(f"{crate}/{edit}: {fault}")
             silent += 1
             continue
         if seen.cell != said:
-            tell(f"{LIST}: {crate}/{edit}\n  list: {said}\n  log:  {seen.cell}\n    {reason(seen)}")
+            tell(f"{LIST}: {crate}/{edit}\n  list: {said}\n  log:  {seen.cell}\n    {seen.text}")
             differ += 1
     print(f"refusers: {len(items)} must-fail edits, {len(items) - differ - silent} as {LIST} says", flush=True)
     if silent:
-        tell(f"refusers.py: {silent} without a log that tells it; `rt must-fail CRATE` makes those of a crate")
+        tell(f"refusers.py: {silent} of which no line says what refuses them")
     if differ:
-        tell(f"refusers.py: {differ} otherwise; `tests/refusers.py --write` puts what the logs show into the list")
+        tell(f"refusers.py: {differ} otherwise; `tests/refusers.py --write` puts what the log shows into the list")
     if differ or silent:
         sys.exit(1)
 
 
-def show(logs, explain):
+def show(root, logs, explain):
+    lines = lines_of(logs)
     wrong = 0
-    for crate, edit in edits_with_logs(logs):
+    for crate, edit in sorted(lines):
         try:
-            seen = refuser(logs / crate / edit, crate, edit)
+            seen = refuser(root, crate, edit, lines)
         except Fault as fault:
             tell(f"{crate}/{edit}: {fault}")
             wrong += 1
             continue
         print(f"{crate} {edit}: {seen.cell}")
         if explain:
-            print(f"    {reason(seen)}")
+            print(f"    {seen.text}")
     if wrong:
-        raise Fault(f"{wrong} of the logs do not tell it")
+        raise Fault(f"{wrong} of the lines do not tell it")
 
 
 def tell(words):
     print(words, file=sys.stderr)
-
-
-def reason(seen):
-    """The error that decided, as far as it fits on a line or two."""
-    return f"{seen.kind}: {seen.file}:{seen.line}: {seen.text[:200]}"
 
 
 def main():
@@ -401,13 +235,14 @@ def main():
         description=words, epilog=rest, formatter_class=argparse.RawDescriptionHelpFormatter
     )
     mode = parser.add_mutually_exclusive_group()
-    mode.add_argument("--explain", action="store_true", help="print the error that decided, too")
-    mode.add_argument("--write", action="store_true", help=f"make the list of {LIST} from edits and logs")
+    mode.add_argument("--explain", action="store_true", help="print what the prover said first, too")
+    mode.add_argument("--write", action="store_true", help=f"make the list of {LIST} from edits and lines")
     mode.add_argument("--listed", action="store_true", help=f"compare the list of {LIST} with the edits of the crates")
-    mode.add_argument("--check", action="store_true", help="compare it with edits and logs")
+    mode.add_argument("--check", action="store_true", help="compare it with edits and lines")
+    parser.add_argument("--log", type=pathlib.Path, action="append", help=f"what rt has printed, if not {LOG}")
     parser.add_argument("--root", type=pathlib.Path, default=ROOT, help="the repository, if not this script's")
     options = parser.parse_args()
-    logs = options.root / "target" / "must-fail"
+    logs = options.log or [options.root / LOG]
     try:
         if options.listed:
             check_listed(options.root)
@@ -416,7 +251,7 @@ def main():
         elif options.write:
             write(options.root, logs)
         else:
-            show(logs, options.explain)
+            show(options.root, logs, options.explain)
     except (Fault, OSError) as fault:
         sys.exit(f"refusers.py: {fault}")
 

@@ -1,7 +1,7 @@
 #!/usr/bin/env bash
 # run.sh: the Makefile's own promises, in a copy and with an `rt` that proves nothing. `make test` says nothing of the toolchain of
 # rt.version; another one it tells at the start and before the last line, and goes on; its last line is that of `rt ci`, and where that
-# fails it fails. What `make check` does, and that `make test` does it too.
+# fails, or tells of bad must-fail edits, it fails. What `make check` does, and that `make test` does it too.
 set -eu -o pipefail
 export LC_ALL=C
 
@@ -33,8 +33,9 @@ cat >"$work/bin/rt" <<'END'
 case $1 in
 version) echo "$RT_VERSION" ;;
 ci)
-    mkdir -p target
+    [ $# -eq 1 ] || exit 2
     echo "crates are proved here"
+    [ -z "$RT_OK" ] || echo "rt: ok; handles allowed: none; must-fail edits: $RT_OK; every proof was done in this run"
     echo "$RT_CI"
     [ "$RT_CI" = "7 passed, 0 failed" ]
     ;;
@@ -50,8 +51,8 @@ make_copy() { # ARGUMENT...
 
 # `make test` with all parts left out but the toolchain and `ci`.
 parts=(test-packages make-test format lint second refusers library programs boundary tool-test install-test)
-test_copy() { # VERSION LAST-LINE-OF-CI
-    RT_VERSION=$1 RT_CI=$2 PATH=$work/bin:$PATH make_copy test "${parts[@]/#/--old-file=}"
+test_copy() { # VERSION LAST-LINE-OF-CI [WHAT-IT-SAYS-OF-EDITS]
+    RT_VERSION=$1 RT_CI=$2 RT_OK=${3-5 refused} PATH=$work/bin:$PATH make_copy test "${parts[@]/#/--old-file=}"
 }
 
 told='*** ANOTHER TOOLCHAIN than the one of rt.version'
@@ -80,7 +81,11 @@ same "the installed toolchain is named" "***   installed:  rattle of tomorrow" "
 
 ! test_copy "rattle of tomorrow" "6 passed, 1 failed" || fail "make test goes on where rt ci fails"
 ! test_copy "$named" "6 passed, 1 failed" || fail "make test goes on where rt ci fails, with the toolchain of rt.version"
-checks=$((checks + 2))
+! test_copy "$named" "$passed" "4 refused, 1 bad" || fail "make test goes on where a must-fail edit is bad"
+! test_copy "$named" "$passed" "4 refused, 2 of them only by a limit, 1 bad" || fail "make test goes on at bad edits beside limits"
+! test_copy "$named" "$passed" "" || fail "make test goes on where rt ci does not say that all is well"
+test_copy "$named" "$passed" "5 refused, 2 of them only by a limit" || fail "make test fails where edits are refused by a limit"
+checks=$((checks + 6))
 
 ### no toolchain at all
 
@@ -93,12 +98,12 @@ same "no toolchain" 1 "$(grep -c '^rt is not installed' "$work/output")"
 ### the quick tests are a part of the whole
 
 make_copy --dry-run check || fail "make --dry-run check fails"
-for command in "rt check kawsarpa" "rt staticlib kawsarpa" tests/make/run.sh tests/lint.sh tests/c/run.sh tests/c/example.sh \
-    tests/c/vectors.sh "cargo test"; do
+for command in "cd crates/kawsarpa && rt check" "cd crates/kawsarpa && rt lib" tests/make/run.sh tests/lint.sh tests/c/run.sh \
+    tests/c/example.sh tests/c/vectors.sh "cargo test"; do
     grep -qF "$command" "$work/output" || fail "make check does not do: $command"
     checks=$((checks + 1))
 done
-! grep -qE 'rt ci|rt prove|rt must-fail|boundary' "$work/output" || fail "make check is not quick"
+! grep -qE 'rt ci|rt all|rt must-fail|boundary' "$work/output" || fail "make check is not quick"
 grep -E '^(tests/|cd tests/)' "$work/output" | sort >"$work/check"
 make_copy --dry-run test --old-file=tool-test --old-file=install-test || fail "make --dry-run test fails"
 grep -E '^(tests/|cd tests/)' "$work/output" | sort >"$work/test"

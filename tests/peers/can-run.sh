@@ -32,6 +32,18 @@ if [ ${#missing[@]} -gt 0 ]; then
     install "${missing[@]}" >&2 || refuse "apt cannot install ${missing[*]}"
 fi
 
+# `rt ci` refuses a link anywhere in the repository: in the place of each stands a copy of the file that it leads to.
+without_links() { # FOLDER
+    local link file
+    while IFS= read -r link; do
+        file=$(readlink -f "$link") || file=
+        rm "$link" || return
+        if [ -f "$file" ]; then
+            cp "$file" "$link" || return
+        fi
+    done < <(find "$1" -type l)
+}
+
 # Installed, it would be started, in no namespace of these tests. So it is unpacked and no more, with the libraries that are missing.
 unpack() {
     mkdir -p "${ggsn%/*}" && fetched=$(mktemp -d "$ggsn.XXXXXX") && mkdir "$fetched/partial" &&
@@ -39,7 +51,7 @@ unpack() {
     for package in "$fetched"/*.deb; do
         dpkg -x "$package" "$fetched" || return
     done
-    rm -rf "$ggsn" && mv "$fetched" "$ggsn" && fetched=
+    without_links "$fetched" && rm -rf "$ggsn" && mv "$fetched" "$ggsn" && fetched=
 }
 if ! command -v osmo-ggsn >/dev/null && [ ! -x "$ggsn/usr/bin/osmo-ggsn" ]; then
     command -v apt-get >/dev/null || refuse "no apt-get to fetch osmo-ggsn"

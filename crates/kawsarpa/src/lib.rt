@@ -1,5 +1,7 @@
 // The functions that C calls (include/kawsarpa.h). What each answers and leaves in the output is said for every packet, every table
 // and every length of the output.
+#![tactic(auto)]
+
 ghost use Rattle.std.specs.Prelude.{◌≡◌, length};
 ghost use Rattle.rules.specs.Answer.{packed, overlay};
 ghost use Rattle.rules.specs.Calls.{translate6, translate4};

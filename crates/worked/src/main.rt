@@ -1,10 +1,12 @@
 // Reads calls from standard input, makes each, and prints its name and what came of it: the answer's fields and the octets sent, also of an
 // ICMPv6 message, TEID and sequence number of the packet, or of a burst its answer, the places for answers and the octets sent. The second
 // program writes the input and what is to be printed (tests/second/src/program.rs, which says how a call stands there).
-ghost use Rattle.io.specs.Counts.{IsPrefixLen};
+#![tactic(auto)]
+
+ghost use Rattle.std.specs.Prelude.{◌≡◌, ◌≤◌, length, take};
 
 use answer::Answer;
-use libc::{STDIN_FILENO, STDOUT_FILENO};
+use std::io::{self, ErrorKind, Read};
 
 // A table length that says: the table of the call before.
 const SAME_TABLE: usize = 0xffff;
@@ -57,57 +59,58 @@ fn lengths_of(h: [u8; 12]) -> Lengths {
 
 // The length, or 0 where the buffer is shorter.
 fn within(n: usize, buf: &[u8]) -> usize
-    ensures { IsPrefixLen result buf.now }
+    ensures bound { result ≤ length buf.now }
+    ensures prefix { result ≡ length (take result buf.now) }
 {
     if n <= buf.len() { n } else { 0 }
 }
 
 fn within_lengths(n: usize, lengths: &[u32]) -> usize
-    ensures { IsPrefixLen result lengths.now }
+    ensures bound { result ≤ length lengths.now }
+    ensures prefix { result ≡ length (take result lengths.now) }
 {
     if n <= lengths.len() { n } else { 0 }
 }
 
 fn within_answers(n: usize, answers: &[u64]) -> usize
-    ensures { IsPrefixLen result answers.now }
+    ensures bound { result ≤ length answers.now }
+    ensures prefix { result ≡ length (take result answers.now) }
 {
     if n <= answers.len() { n } else { 0 }
 }
 
-fn print_field(n: u64) {
-    io::print_decimal(STDOUT_FILENO, n);
-    io::write_all(STDOUT_FILENO, &[b' ']);
+fn print_field(rt: &impl Print, n: u64) -> io::Result<()> {
+    print!(rt; "{n} ")
 }
 
-fn print_octet(x: u8) {
-    io::print_hex(STDOUT_FILENO, x as u64, 2);
+fn print_octet(rt: &impl Print, x: u8) -> io::Result<()> {
+    print!(rt; "{x:02x}")
 }
 
-fn print_octets(out: &[u8], n: usize) {
-    let mut i = 0;
-    while i < n {
-        print_octet(octets::octet_or_0(out, i));
-        i += 1;
+fn print_octets(rt: &impl Print, out: &[u8], n: usize) -> io::Result<()> {
+    for i in 0..n {
+        print_octet(rt, octets::octet_or_0(out, i))?;
     }
+    Ok(())
 }
 
-fn print_name(name: &[u8]) {
-    io::write_all(STDOUT_FILENO, name);
-    io::write_all(STDOUT_FILENO, &[b':', b' ']);
+fn print_name(rt: &impl Print, name: &[u8]) -> io::Result<()> {
+    rt.write_all(name)?;
+    print!(rt; ": ")
 }
 
-fn print_answer(name: &[u8], a: Answer, out: &[u8]) {
-    print_name(name);
-    print_field(a.number as u64);
-    print_field(a.icmpType as u64);
-    print_field(a.icmpCode as u64);
-    print_field(a.pointer as u64);
-    print_field(a.size as u64);
+fn print_answer(rt: &impl Print, name: &[u8], a: Answer, out: &[u8]) -> io::Result<()> {
+    print_name(rt, name)?;
+    print_field(rt, a.number as u64)?;
+    print_field(rt, a.icmpType as u64)?;
+    print_field(rt, a.icmpCode as u64)?;
+    print_field(rt, a.pointer as u64)?;
+    print_field(rt, a.size as u64)?;
     if a.size == 0 {
-        io::write_all(STDOUT_FILENO, &[b'-']);
+        print!(rt; "-")?;
     }
-    print_octets(out, a.size);
-    io::write_all(STDOUT_FILENO, &[b'\n']);
+    print_octets(rt, out, a.size)?;
+    println!(rt)
 }
 
 // The fields of an answer in one number.
@@ -122,16 +125,14 @@ fn unpacked(answer: u64) -> Answer {
 }
 
 // TEID and sequence number that a reader found; - where there are none.
-fn print_sequence(name: &[u8], found: u64) {
-    print_name(name);
+fn print_sequence(rt: &impl Print, name: &[u8], found: u64) -> io::Result<()> {
+    print_name(rt, name)?;
     if found == 0 {
-        io::write_all(STDOUT_FILENO, &[b'-', b'\n']);
-        return;
+        return println!(rt; "-");
     }
-    io::print_hex(STDOUT_FILENO, found / 0x10000 % 0x100000000, 8);
-    io::write_all(STDOUT_FILENO, &[b' ']);
-    io::print_decimal(STDOUT_FILENO, found % 0x10000);
-    io::write_all(STDOUT_FILENO, &[b'\n']);
+    let teid = found / 0x10000 % 0x100000000;
+    let number = found % 0x10000;
+    println!(rt; "{teid:08x} {number}")
 }
 
 // Length i, of 255 at most, which stand from octet 2 of the packet on.
@@ -145,20 +146,16 @@ fn length_at(packet: &[u8], i: usize) -> u32 {
 }
 
 fn read_lengths(packet: &[u8], lengths: &mut [u32]) {
-    let mut i = 0;
-    while i < lengths.len() {
+    for i in 0..lengths.len() {
         lengths[i] = length_at(packet, i);
-        i += 1;
     }
 }
 
-fn print_answers(answers: &[u64]) {
-    let mut i = 0;
-    while i < answers.len() {
-        io::print_hex(STDOUT_FILENO, answers[i], 16);
-        io::write_all(STDOUT_FILENO, &[b' ']);
-        i += 1;
+fn print_answers(rt: &impl Print, answers: &[u64]) -> io::Result<()> {
+    for answer in answers {
+        print!(rt; "{answer:016x} ")?;
     }
+    Ok(())
 }
 
 fn made_burst(
@@ -177,6 +174,7 @@ fn made_burst(
 
 // A burst with so many lengths and places for answers.
 fn burst_of(
+    rt: &impl Print,
     function: u8,
     name: &[u8],
     table: &[u8],
@@ -184,20 +182,20 @@ fn burst_of(
     out: &mut [u8],
     lengths: &mut [u32],
     answers: &mut [u64],
-) {
+) -> io::Result<()> {
     read_lengths(packet, lengths);
     let at = within(2 + 4 * lengths.len(), packet);
     let answer = made_burst(function, &packet[at..], lengths, table, out, answers);
-    print_name(name);
-    io::print_hex(STDOUT_FILENO, answer, 16);
-    io::write_all(STDOUT_FILENO, &[b' ']);
-    print_answers(answers);
-    print_octets(out, burst::size_of(answer));
-    io::write_all(STDOUT_FILENO, &[b'\n']);
+    print_name(rt, name)?;
+    print!(rt; "{answer:016x} ")?;
+    print_answers(rt, answers)?;
+    print_octets(rt, out, burst::size_of(answer))?;
+    println!(rt)
 }
 
 // The octets of the packet begin with the number of lengths and that of places for answers, then the lengths.
 fn burst_in(
+    rt: &impl Print,
     function: u8,
     name: &[u8],
     table: &[u8],
@@ -205,10 +203,11 @@ fn burst_in(
     out: &mut [u8],
     lengths: &mut [u32],
     answers: &mut [u64],
-) {
+) -> io::Result<()> {
     let count = within_lengths(octets::wide(octets::octet_or_0(packet, 0)), lengths);
     let places = within_answers(octets::wide(octets::octet_or_0(packet, 1)), answers);
     burst_of(
+        rt,
         function,
         name,
         table,
@@ -216,13 +215,21 @@ fn burst_in(
         out,
         &mut lengths[..count],
         &mut answers[..places],
-    );
+    )
 }
 
-fn burst(function: u8, name: &[u8], table: &[u8], packet: &[u8], out: &mut [u8]) {
+fn burst(
+    rt: &impl Print,
+    function: u8,
+    name: &[u8],
+    table: &[u8],
+    packet: &[u8],
+    out: &mut [u8],
+) -> io::Result<()> {
     let mut length_space = [0u32; 255];
     let mut answer_space = [BEFORE; 255];
     burst_in(
+        rt,
         function,
         name,
         table,
@@ -230,82 +237,97 @@ fn burst(function: u8, name: &[u8], table: &[u8], packet: &[u8], out: &mut [u8])
         out,
         &mut length_space,
         &mut answer_space,
-    );
+    )
 }
 
-fn call(function: u8, name: &[u8], table: &[u8], packet: &[u8], out: &mut [u8]) {
+fn call(
+    rt: &impl Print,
+    function: u8,
+    name: &[u8],
+    table: &[u8],
+    packet: &[u8],
+    out: &mut [u8],
+) -> io::Result<()> {
     if function == SEQUENCE_IPV4 {
-        print_sequence(name, sequence::sequence_ipv4(packet));
-        return;
+        return print_sequence(rt, name, sequence::sequence_ipv4(packet));
     }
     if function == SEQUENCE_IPV6 {
-        print_sequence(name, sequence::sequence_ipv6(packet));
-        return;
+        return print_sequence(rt, name, sequence::sequence_ipv6(packet));
     }
     if (function == BURST_IPV4) | (function == BURST_IPV6) {
-        burst(function, name, table, packet, out);
-        return;
+        return burst(rt, function, name, table, packet, out);
     }
     if function == ICMP_IPV6 {
         let a = unpacked(report::icmp_ipv6(packet, table, out));
-        print_answer(name, a, out);
-        return;
+        return print_answer(rt, name, a, out);
     }
     if function == TRANSLATE_IPV4 {
         let a = gateway::translate_ipv4(packet, table, out);
-        print_answer(name, a, out);
-        return;
+        return print_answer(rt, name, a, out);
     }
     let a = gateway::translate_ipv6(packet, table, out);
-    print_answer(name, a, out);
+    print_answer(rt, name, a, out)
 }
 
 // Reads octets until the buffer is full; false where the input ends before.
-fn filled(buf: &mut [u8]) -> bool {
-    io::read_full(STDIN_FILENO, buf) == buf.len()
+fn filled(input: &mut impl Read, buf: &mut [u8]) -> io::Result<bool> {
+    match input.read_exact(buf) {
+        Ok(()) => Ok(true),
+        Err(error) => {
+            if error.kind() == ErrorKind::UnexpectedEof {
+                Ok(false)
+            } else {
+                Err(error)
+            }
+        }
+    }
 }
 
 // The table's octets, unless it is the table of the call before.
-fn filled_table(same: bool, table: &mut [u8]) -> bool {
+fn filled_table(input: &mut impl Read, same: bool, table: &mut [u8]) -> io::Result<bool> {
     if same {
-        return true;
+        return Ok(true);
     }
-    filled(table)
+    filled(input, table)
 }
 
 // Reads the octets of one call and makes it; false where the input ends before.
 fn taken(
+    rt: &impl Print,
+    input: &mut impl Read,
     function: u8,
     same_table: bool,
     name: &mut [u8],
     table: &mut [u8],
     packet: &mut [u8],
     out: &mut [u8],
-) -> bool {
-    if !filled(name) {
-        return false;
+) -> io::Result<bool> {
+    if !filled(input, name)? {
+        return Ok(false);
     }
-    if !filled_table(same_table, table) {
-        return false;
+    if !filled_table(input, same_table, table)? {
+        return Ok(false);
     }
-    if !filled(packet) {
-        return false;
+    if !filled(input, packet)? {
+        return Ok(false);
     }
-    call(function, name, table, packet, out);
-    true
+    call(rt, function, name, table, packet, out)?;
+    Ok(true)
 }
 
 // One call: the length of its table, or NONE.
 fn next(
+    rt: &impl Print,
+    input: &mut impl Read,
     name: &mut [u8],
     table: &mut [u8],
     packet: &mut [u8],
     out: &mut [u8],
     before: usize,
-) -> usize {
+) -> io::Result<usize> {
     let mut head = [0u8; 12];
-    if !filled(&mut head) {
-        return NONE;
+    if !filled(input, &mut head)? {
+        return Ok(NONE);
     }
     let c = lengths_of(head);
     let same_table = c.table == SAME_TABLE;
@@ -314,21 +336,21 @@ fn next(
     let j = within(table_length, table);
     let k = within(c.packet, packet);
     let l = within(c.room, out);
-    if !taken(
+    let made = taken(
+        rt,
+        input,
         c.function,
         same_table,
         &mut name[..i],
         &mut table[..j],
         &mut packet[..k],
         &mut out[..l],
-    ) {
-        return NONE;
-    }
-    table_length
+    )?;
+    Ok(if made { table_length } else { NONE })
 }
 
-// A proved loop has to end: so many calls at most.
-fn main() {
+// A proved loop has to end: so many calls at most. An `Err` says that standard input cannot be read, or standard output not written.
+fn main(rt: HostRuntime) -> io::Result<()> {
     let mut name_space = [0u8; 255];
     let mut table_space = [0u8; 12000];
     let mut packet_space = [0u8; 70000];
@@ -337,10 +359,13 @@ fn main() {
     let table: &mut [u8] = &mut table_space;
     let packet: &mut [u8] = &mut packet_space;
     let out: &mut [u8] = &mut out_space;
+    let mut input = rt.stdin();
     let mut table_length = 0;
-    let mut left = u32::MAX;
-    while left > 0 && table_length != NONE {
-        table_length = next(name, table, packet, out, table_length);
-        left -= 1;
+    for _ in 0..u32::MAX {
+        table_length = next(&rt, &mut input, name, table, packet, out, table_length)?;
+        if table_length == NONE {
+            break;
+        }
     }
+    Ok(())
 }

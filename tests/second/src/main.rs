@@ -68,10 +68,14 @@ usage:
   second program-output --seed N --per-kind K [--max-worked L]
       what the library's program `worked` reads, and what it should print: the
       worked packets that are calls (of at most L octets, if given), those for the
-      readers, the worked bursts and ICMPv6 messages, then K cases for each kind,
-      short bursts, a tenth as many, and packets for ICMPv6 messages; case D N:I:P is
-      that of second show --seed N --index I --packet P, burst N:I that of second
-      burst-vectors --seed N --first I --cases 1, icmp N:I that of second icmp-vectors
+      readers, the worked bursts, then K cases for each kind and short bursts, a tenth
+      as many; case D N:I:P is that of second show --seed N --index I --packet P,
+      burst N:I that of second burst-vectors --seed N --first I --cases 1
+  second icmp-program-input --seed N --cases M [--max-worked L]
+  second icmp-program-output --seed N --cases M [--max-worked L]
+      the same for ICMPv6 messages: the worked ones (about packets of at most L octets,
+      if given), then those about M short packets; icmp N:I is that of second
+      icmp-vectors --seed N --first I --cases 1
   second trips --seed N --cases M
       run M whole trips, each followed by two second trips
   second burst-trips --seed N --cases M
@@ -327,6 +331,16 @@ fn run(words: &[String], out: &mut dyn Write) -> Result<(), Failure> {
                 .map_err(Failure::Check)?;
             match command.as_str() {
                 "program-input" => out.write_all(&run.input)?,
+                _ => out.write_all(run.output.as_bytes())?,
+            }
+        }
+        "icmp-program-input" | "icmp-program-output" => {
+            let options = Options::parse(rest, &["--seed", "--cases", "--max-worked"])?;
+            let (seed, cases) = (options.get("--seed")?, options.get("--cases")?);
+            let max_worked = usize::try_from(options.get_or("--max-worked", u64::MAX));
+            let run = program::messages(seed, cases, max_worked.unwrap_or(usize::MAX));
+            match command.as_str() {
+                "icmp-program-input" => out.write_all(&run.input)?,
                 _ => out.write_all(run.output.as_bytes())?,
             }
         }

@@ -1,6 +1,7 @@
 //! What the program `worked` of the library reads, and the lines that it should
-//! print: the calls of the worked packets, their readings, worked bursts and ICMPv6
-//! messages, then cases, bursts and ICMPv6 messages of a seed.
+//! print: the calls of the worked packets, their readings, worked bursts, then cases
+//! and bursts of a seed; or, in a run of their own, worked ICMPv6 messages and those of
+//! a seed.
 
 use crate::answer::Answer;
 use crate::burst::cases::Burst;
@@ -22,9 +23,8 @@ const MAX_TABLE: usize = 500;
 const PACKETS_PER_TABLE: u64 = 64;
 const MAX_BURST: usize = 800;
 
-/// Bursts of a seed, and packets for ICMPv6 messages, for each 100 cases of a kind.
+/// Bursts of a seed for each 100 cases of a kind.
 const BURSTS_PER_100: u64 = 10;
-const MESSAGES_PER_100: u64 = 18;
 
 /// Tables tried before the cases wanted are given up.
 const MAX_INDEX: u64 = 100_000;
@@ -163,8 +163,8 @@ impl Run {
 }
 
 /// The worked packets that are calls, but longer ones than `max_worked`, the
-/// worked packets for the readers, the worked bursts and ICMPv6 messages, then `per_kind`
-/// cases of each kind, some bursts and some packets for ICMPv6 messages.
+/// worked packets for the readers, the worked bursts, then `per_kind` cases of each
+/// kind and some bursts.
 pub fn run(seed: u64, per_kind: u64, max_worked: usize) -> Result<Run, String> {
     let mut run = Run::new();
     for worked in worked::calls() {
@@ -187,11 +187,6 @@ pub fn run(seed: u64, per_kind: u64, max_worked: usize) -> Result<Run, String> {
             run.add_burst(worked.words, &worked.burst);
         }
     }
-    for worked in worked::icmp::messages() {
-        if worked.case.packet.len() <= max_worked {
-            run.add_message(worked.words, &worked.case);
-        }
-    }
     for ((index, packet), case) in vectors::select_from(cases(seed), per_kind, MAX_PACKET)? {
         let name = format!("{} {seed}:{index}:{packet}", case.kind.name());
         run.add(&name, case.call, &case.packet, &case.table, case.room);
@@ -200,11 +195,22 @@ pub fn run(seed: u64, per_kind: u64, max_worked: usize) -> Result<Run, String> {
     for (index, burst) in short_bursts(seed).take(wanted as usize) {
         run.add_burst(&format!("burst {seed}:{index}"), &burst);
     }
-    let wanted = per_kind * MESSAGES_PER_100 / 100;
-    for (index, case) in short_messages(seed).take(wanted as usize) {
+    Ok(run)
+}
+
+/// The worked ICMPv6 messages, but those about longer packets than `max_worked`, and
+/// then so many packets for ICMPv6 messages.
+pub fn messages(seed: u64, cases: u64, max_worked: usize) -> Run {
+    let mut run = Run::new();
+    for worked in worked::icmp::messages() {
+        if worked.case.packet.len() <= max_worked {
+            run.add_message(worked.words, &worked.case);
+        }
+    }
+    for (index, case) in short_messages(seed).take(cases as usize) {
         run.add_message(&format!("icmp {seed}:{index}"), &case);
     }
-    Ok(run)
+    run
 }
 
 /// Several packets for each table that is short enough, with index and packet number.
