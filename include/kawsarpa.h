@@ -186,7 +186,8 @@ static inline uint8_t kawsarpa_answer_number(uint64_t answer)
     return KAWSARPA_AS(uint8_t, answer & 0xFF);
 }
 
-/* What an ICMPv6 message about the packet says; 0 throughout where there is none to send. kawsarpa_icmp_ipv6 builds the message. */
+/* What an ICMPv6 message about the packet says; 0 throughout where there is none to send. The library sends none itself.
+   kawsarpa_icmp_ipv6 builds the message. */
 static inline uint8_t kawsarpa_answer_icmp_type(uint64_t answer)
 {
     return KAWSARPA_AS(uint8_t, answer >> 8 & 0xFF);
@@ -252,7 +253,7 @@ enum {
     KAWSARPA_ANSWER_BAD_CHECKSUM = 18,
     /* bursts only: over 32 lengths, lengths that do not add up to the input, or fewer places for answers than lengths */
     KAWSARPA_ANSWER_BAD_BURST = 19,
-    /* ICMPv6 messages only: none is due */
+    /* ICMPv6 messages only: none is due; it has no name */
     KAWSARPA_ANSWER_NONE_DUE = 23,
     /* offers only: no row is free for a new TEID */
     KAWSARPA_ANSWER_NO_ROW = 25,
@@ -273,8 +274,8 @@ static inline const char *kawsarpa_answer_name(unsigned int number)
     static const char *const names[] = {
         "sent", "table not sound", "malformed packet", "bad IPv4 header", "no match", "bad header chain", "hop limit exceeded",
         "bad segments left", "bad upper layer", "bad UDP", "bad GTP-U", "not a G-PDU", "bad extensions", "bad container",
-        "bad inner packet", "too long", "no room", "bad Echo Request", "bad UDP checksum", "bad burst", 0, 0, 0, "no ICMP due", 0,
-        "no row free", "row full"
+        "bad inner packet", "too long", "no room", "bad Echo Request", "bad UDP checksum", "bad burst", 0, 0, 0, 0, 0, "no row free",
+        "row full"
     };
     /* clang-format on */
     return number < sizeof names / sizeof names[0] && names[number] != 0 ? names[number] : "unknown";

@@ -51,8 +51,8 @@ static error_t parse(int key, char *argument, struct argp_state *state)
 }
 
 static const char help_text[] =
-    "Says what an answer (0 to 19, 23, 25 or 26) means, what it is likely to come from, and what to do next; with --fault, what is wrong "
-    "with a table; with --match, why tables do not fit. NUMBER is decimal, or hexadecimal behind 0x."
+    "Says what an answer (0 to 19, 25 or 26) means, what it is likely to come from, and what to do next; with --fault, what is wrong with "
+    "a table; with --match, why tables do not fit. NUMBER is decimal, or hexadecimal behind 0x."
     "\vExit codes: 0 explained; 1 there is no such number; 2 wrong usage; 3 the system failed.";
 
 static const struct argp argp = {option_list, parse, "NUMBER", help_text, shared_options, NULL, NULL};
@@ -89,8 +89,8 @@ static int explain_answer(const char *text, unsigned long long number)
 {
     const struct answer_words *answer = answer_words(number);
     if (answer == NULL) {
-        say_error("%s is no answer: answers are 0 to %d, %d, %d and %d", text, KAWSARPA_ANSWER_BAD_BURST, KAWSARPA_ANSWER_NONE_DUE,
-                  KAWSARPA_ANSWER_NO_ROW, KAWSARPA_ANSWER_ROW_FULL);
+        say_error("%s is no answer: answers are 0 to %d, %d and %d", text, KAWSARPA_ANSWER_BAD_BURST, KAWSARPA_ANSWER_NO_ROW,
+                  KAWSARPA_ANSWER_ROW_FULL);
         return EXIT_INPUT;
     }
     printf("%llu: %s\n", number, kawsarpa_answer_name((unsigned int)number));

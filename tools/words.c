@@ -182,13 +182,6 @@ static const struct answer_words answers[] = {
      "A fault of the program that calls the library, and not of a packet or of the table. No packet of the burst was looked at, none was "
      "sent, and none has an answer of its own.",
      "Report it to whoever writes that program: it has to hand over at most 32 packets, one after the other, with the length of each."},
-    [KAWSARPA_ANSWER_NONE_DUE] =
-    {"A call for an ICMPv6 message: the packet was not refused with 6, 7 or 8 over IPv6; or its source is multicast or unspecified, its "
-     "destination multicast, or its upper layer ICMPv6 of a type under 128, which is an error, or 137, a Redirect.",
-     NULL,
-     "RFC 4443 forbids the message: it would go to many at once or to nobody, or be an error about an error. Often a packet to a SID that "
-     "is itself an ICMPv6 error, as from a router on the way. The answer to the packet stays 6, 7 or 8.",
-     "`kawsarpa translate --trace' says which of these it is. Nothing has to be mended here; look at the answer to the packet itself."},
     [KAWSARPA_ANSWER_NO_ROW] =
     {"An offer of a sequence number: the TEID has no row, and no row is free. There are 256 at most.",
      NULL,

@@ -10,8 +10,8 @@
 
 typedef uint64_t call_function(const uint8_t *, size_t, const uint8_t *, size_t, uint8_t *, size_t);
 
-/* More room than any result needs that is compared here. */
-enum { ROOM = KAWSARPA_ICMP_MAX + 40, GUARD = 16, BUFFER = GUARD + ROOM + GUARD };
+/* More room than any result needs that is compared: a program that includes this says how much. */
+enum { ROOM = CALL_ROOM, GUARD = 16, BUFFER = GUARD + ROOM + GUARD };
 
 /* The output that is lent lies within this buffer: octets before and behind it must stay as they are too. */
 static uint8_t buffer[BUFFER];

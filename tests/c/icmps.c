@@ -2,6 +2,9 @@
  * ICMPv6 messages from C that are due: whole ones octet by octet, every kind of entry, the longest match, how much of a packet is quoted,
  * rooms, null pointers with a count of 0, the example of kawsarpa.h. Prints a line for each check.
  */
+/* Octets that are lent as the output. */
+#define CALL_ROOM (KAWSARPA_ICMP_MAX + 40)
+
 #include "call.h"
 #include "checks.h"
 #include "icmp.h"

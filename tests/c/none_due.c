@@ -2,6 +2,9 @@
  * Where no ICMPv6 message is due, from C, beside the nearest packets about which one is: sources, destinations, ICMPv6 types, packets that
  * the IPv6 call answers otherwise, messages that were built. Prints a line for each check.
  */
+/* Octets that are lent as the output. */
+#define CALL_ROOM (KAWSARPA_ICMP_MAX + 40)
+
 #include "call.h"
 #include "checks.h"
 #include "checksum.h"

@@ -134,35 +134,35 @@ same "kawsarpa(3): the program prints something else" "$(section "$library_page"
 {
     echo '#include <stdio.h>'
     echo '#include <kawsarpa.h>'
-    echo 'void send_on(const uint8_t *result, size_t length);'
-    echo 'void tell(const uint8_t *packet, size_t packet_len, const uint8_t *table, size_t table_len, uint8_t *out, size_t out_len);'
-    echo 'void tell(const uint8_t *packet, size_t packet_len, const uint8_t *table, size_t table_len, uint8_t *out, size_t out_len) {'
-    display "$library_page" EXAMPLES 2
-    echo '}'
     echo 'void loss(const uint8_t *packet, size_t packet_len);'
     echo 'void loss(const uint8_t *packet, size_t packet_len) {'
-    display "$library_page" EXAMPLES 3
+    display "$library_page" EXAMPLES 2
     echo '}'
     echo 'void fit(const uint8_t *near_table, size_t near_len, const uint8_t *far_table, size_t far_len);'
     echo 'void fit(const uint8_t *near_table, size_t near_len, const uint8_t *far_table, size_t far_len) {'
-    display "$library_page" EXAMPLES 4
+    display "$library_page" EXAMPLES 3
     echo '}'
+    echo 'void send_on(const uint8_t *result, size_t length);'
     echo 'void burst(const uint8_t *packets, size_t packets_len, const uint32_t *lengths, size_t count, const uint8_t *table,'
     echo '           size_t table_len, uint8_t *out, size_t out_len);'
     echo 'void burst(const uint8_t *packets, size_t packets_len, const uint32_t *lengths, size_t count, const uint8_t *table,'
     echo '           size_t table_len, uint8_t *out, size_t out_len) {'
+    display "$library_page" EXAMPLES 4
+    echo '}'
+    echo 'void tell(const uint8_t *packet, size_t packet_len, const uint8_t *table, size_t table_len, uint8_t *out, size_t out_len);'
+    echo 'void tell(const uint8_t *packet, size_t packet_len, const uint8_t *table, size_t table_len, uint8_t *out, size_t out_len) {'
     display "$library_page" EXAMPLES 5
     echo '}'
 } >"$work/parts.c"
 gcc -std=c99 "${warnings[@]}" -I "$top/include" -c -o "$work/parts.o" "$work/parts.c" || fail "kawsarpa(3): an example does not compile"
-same "kawsarpa(3): other calls in the examples" "kawsarpa_call_ipv6
-kawsarpa_call_icmp_ipv6
-kawsarpa_call_sequence_ipv6
+same "kawsarpa(3): other calls in the examples" "kawsarpa_call_sequence_ipv6
 kawsarpa_loss_offer
 kawsarpa_match_table
 kawsarpa_call_burst_ipv6
-kawsarpa_burst_next" "$(grep -oE '\bkawsarpa_((call|call_icmp|call_sequence|call_burst)_ipv6|loss_offer|match_table|burst_next)\(' \
-    "$work/parts.c" | tr -d '(')"
+kawsarpa_burst_next" "$(grep -oE '\bkawsarpa_(call_sequence_ipv6|loss_offer|match_table|call_burst_ipv6|burst_next)\(' "$work/parts.c" |
+    tr -d '(')"
+same "kawsarpa(3): other calls in the example of ICMPv6 messages" "kawsarpa_call_ipv6
+kawsarpa_call_icmp_ipv6" "$(grep -oE '\bkawsarpa_(call|call_icmp)_ipv6\(' "$work/parts.c" | tr -d '(')"
 for pair in "loss_row:Lost sequence numbers" burst_result:Bursts; do
     struct="struct kawsarpa_${pair%%:*}"
     same "kawsarpa(3): $struct is not that of the header" \

@@ -192,7 +192,7 @@ class Senders:
     def refused(self, case: Case, opened: socket.socket, payload: bytes) -> bytes:
         """Sends a datagram; gives the message about it."""
         opened.sendto(payload, (expect.address(case.destination), INNER_PORTS[1]))
-        packet = self.tunnel.sent_to([*case.segments, case.destination][0])
+        packet = self.tunnel.sent_to([*case.segments, case.destination][0], (wire.NEXT_UDP, wire.NEXT_ROUTING))
         for stop in case.stops[:-1]:
             packet = self.passed(packet, stop)
         return self.message(packet, case.stops[-1], case.refusal, case.name)

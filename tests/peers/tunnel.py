@@ -10,6 +10,7 @@ from pathlib import Path
 from typing import Callable, Sequence
 
 import network
+import wire
 from library import Library
 
 NODE, DEVICE = "client", "tun"
@@ -43,12 +44,12 @@ class Tunnel:
     def write(self, packet: bytes) -> None:
         os.write(self.device, packet)
 
-    def sent_to(self, destination: bytes) -> bytes:
-        """The next IPv6 packet that leaves for a destination."""
+    def sent_to(self, destination: bytes, next_headers: Sequence[int] = (wire.NEXT_UDP,)) -> bytes:
+        """The next IPv6 packet with UDP that leaves for a destination; or with another of these next headers."""
         end = time.monotonic() + network.PATIENCE
         while time.monotonic() < end:
             packet = self.read(A_MOMENT)
-            if packet is not None and packet[0] >> 4 == 6 and packet[24:40] == destination:
+            if packet is not None and packet[0] >> 4 == 6 and packet[6] in next_headers and packet[24:40] == destination:
                 return packet
         raise RuntimeError(f"no packet to {destination.hex()} left {self.node}")
 

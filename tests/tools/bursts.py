@@ -1,8 +1,8 @@
-"""bursts.py DIRECTORY SEED COUNT: writes COUNT drawn captures there, drawn-0.pcap and so on, and behind.pcap, for bursts.sh.
+"""bursts.py DIRECTORY SEED COUNT: writes COUNT drawn captures there, drawn-0.pcap and so on, and behind.pcap, for bursts.sh; and as many of
+the same kind with packets about which an ICMPv6 message is due, or none: refused-0.pcap and so on.
 
-Drawn are up to 140 frames in runs of both IP versions: packets that are sent, answered or refused, some with an ICMPv6 message, short and
-very long ones; between them frames that are snapped or not IP; the end of the capture may be cut or damaged. In behind.pcap frame 30 of 40
-is snapped.
+Drawn are up to 140 frames in runs of both IP versions: packets that are sent, answered or refused, short and very long ones; between them
+frames that are snapped or not IP; the end of the capture may be cut or damaged. In behind.pcap frame 30 of 40 is snapped.
 """
 
 import random
@@ -36,8 +36,8 @@ def refused(draw: random.Random) -> bytes:
     return yard.ipv6_header(source, yard.RADIO6, 0, 43 if segments else 58, payload) + payload
 
 
-def packet(draw: random.Random, version: int) -> bytes:
-    """Mostly one that the office sends on; else an Echo Request, a refusal, or what is long."""
+def packet(draw: random.Random, version: int, told: bool) -> bytes:
+    """Mostly one that the office sends on; else an Echo Request, a refusal, or what is long; where its sender is told, more refusals."""
     way = draw.randrange(20)
     inner = yard.to_carrier(draw.randbytes(draw.choice([0, 1, 12, 100, 100, 100, 1300])))
     octets = g_pdu(version, draw.randrange(64), inner, draw.randrange(2))
@@ -56,7 +56,7 @@ def packet(draw: random.Random, version: int) -> bytes:
         return octets + bytes(draw.choice([65575, 100000, LONGEST]) - len(octets))
     if way == 6:
         return octets[:draw.randrange(1, len(octets))]
-    if way in (7, 8) and version == 6:
+    if told and way in (7, 8) and version == 6:
         return refused(draw)
     return octets
 
@@ -66,7 +66,7 @@ def frame(octets: bytes, cut: int = 0) -> bytes:
     return struct.pack("<IIII", captures.SECOND, length, length, len(octets)) + octets[:length]
 
 
-def drawn(draw: random.Random) -> bytes:
+def drawn(draw: random.Random, told: bool = False) -> bytes:
     """A capture of raw IP. The version changes seldom, or often, or with every packet."""
     octets = captures.pcap(captures.RAW, [])
     version, changes = 6, draw.choice([0, 1, 4, 10])
@@ -75,12 +75,12 @@ def drawn(draw: random.Random) -> bytes:
         if draw.randrange(10) < changes:
             version = 10 - version
         if draw.randrange(20) < strange:
-            octets += draw.choice([frame(b"\x50" + bytes(30)), frame(packet(draw, version), 1)])
+            octets += draw.choice([frame(b"\x50" + bytes(30)), frame(packet(draw, version, told), 1)])
         else:
-            octets += frame(packet(draw, version))
+            octets += frame(packet(draw, version, told))
     end = draw.randrange(6)
     if end == 0:
-        octets += frame(packet(draw, version))[:draw.randrange(1, 40)]
+        octets += frame(packet(draw, version, told))[:draw.randrange(1, 40)]
     elif end == 1:
         octets += struct.pack("<IIII", captures.SECOND, 0, 0xFFFFFFFF, 0xFFFFFFFF) + bytes(1000)
     return octets
@@ -95,6 +95,8 @@ def main() -> None:
     command = g_pdu(6, 5, yard.to_carrier(b"lane 7: stop"))
     frames = [frame(command, number == 30) for number in range(1, 41)]
     (directory / "behind.pcap").write_bytes(captures.pcap(captures.RAW, []) + b"".join(frames))
+    for number in range(int(sys.argv[3])):
+        (directory / f"refused-{number}.pcap").write_bytes(drawn(draw, True))
 
 
 if __name__ == "__main__":

@@ -391,14 +391,17 @@ expect 0 '# Compiling this gives a table that answers the same, with other octet
 
 ### explain
 
-for number in {0..19} 23 25 26; do
+for number in {0..19} 25 26; do
     expect 0 "$number: " explain "$number"
     grep -q '^Next step: ' output || fail "explain $number has no next step"
 done
 expect 0 '7: bad segments left' explain 0x7
 expect 0 'the table is sound' explain --fault 0
-for bad in 20 22 24 27 255 4294967296; do
-    expect 1 "$bad is no answer: answers are 0 to 19, 23, 25 and 26" explain "$bad"
+for bad in 20 24 27 255 4294967296; do
+    expect 1 "$bad is no answer: answers are 0 to 19, 25 and 26" explain "$bad"
+done
+for bad in 22 23; do # the latter is an answer to the call for an ICMPv6 message alone
+    expect 1 "$bad is no answer: answers are 0 to 19, 25 and 26" explain "$bad"
 done
 for bad in x 7x '' ' 7' 0x 0x0x7 99999999999999999999999; do
     expect 2 'is no number' explain "$bad"

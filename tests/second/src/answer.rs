@@ -12,7 +12,7 @@ const SR_UPPER_LAYER_HEADER_ERROR: u8 = 4;
 const SEGMENTS_LEFT_OFFSET: u16 = 43;
 
 /// The answer numbers in words, those of `kawsarpa.h`.
-const NAMES: [&str; 24] = [
+const NAMES: [&str; 20] = [
     "sent",
     "table not sound",
     "malformed packet",
@@ -33,10 +33,6 @@ const NAMES: [&str; 24] = [
     "bad Echo Request",
     "bad UDP checksum",
     "bad burst",
-    "unknown",
-    "unknown",
-    "unknown",
-    "no ICMP due",
 ];
 
 /// One answer: number, ICMP type, code and pointer, length.
@@ -219,7 +215,7 @@ mod tests {
         );
         assert_eq!(Refusal::Burst.answer().to_string(), "19 (bad burst)");
         assert_eq!(Answer::unpack(22).to_string(), "22 (unknown)");
-        assert_eq!(Refusal::NoneDue.answer().to_string(), "23 (no ICMP due)");
+        assert_eq!(Refusal::NoneDue.answer().to_string(), "23 (unknown)");
         assert_eq!(Answer::unpack(24).to_string(), "24 (unknown)");
         assert_eq!(
             Refusal::HopLimit.answer().to_string(),

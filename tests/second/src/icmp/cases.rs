@@ -552,7 +552,7 @@ mod tests {
         let wrong = parse(&format!("icmp 0000000000000010 9 60 {table} -")).unwrap();
         assert_eq!(
             wrong.check().unwrap_err(),
-            "answer 23 (no ICMP due); expected 16 (no room)"
+            "answer 23 (unknown); expected 16 (no room)"
         );
     }
 
