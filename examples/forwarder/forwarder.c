@@ -1,7 +1,7 @@
 /*
- * A small forwarder over bursts: reads raw IP packets, translates them by a table, up to 32 a call, and sends the results on, and the
- * ICMPv6 messages about packets that are refused. Captures stand in for its two ports, so it runs anywhere; in a real one next_packet and
- * send_on are the driver's, and the rest stays.
+ * A small forwarder over bursts: reads raw IP packets, translates them by a table, up to 32 a call, and sends the results on. Captures
+ * stand in for its two ports, so it runs anywhere; in a real one next_packet and send_on are the driver's, and the rest stays. With a
+ * fourth name it sends the ICMPv6 messages about packets that are refused, into a capture of their own.
  */
 #include <errno.h>
 #include <kawsarpa.h>
@@ -37,6 +37,8 @@ static struct {
 static struct {
     unsigned long frames, left_out, bursts, echo_answered, messages, answers[UINT8_MAX + 1];
 } counts;
+
+static pcap_dumper_t *icmp_out; /* where ICMPv6 messages go; NULL: none is sent */
 
 static void fail(int code, const char *name, const char *fault)
 {
@@ -84,6 +86,13 @@ static pcap_dumper_t *open_out(const char *name)
     return out;
 }
 
+static void close_out(pcap_dumper_t *out, const char *name)
+{
+    if (pcap_dump_flush(out) != 0 || ferror(pcap_dump_file(out)) != 0)
+        fail(SYSTEM_FAILED, name, strerror(errno));
+    pcap_dump_close(out);
+}
+
 /* The next packet, whole and with the version of IP; what is none is left out. False at the end. */
 static bool next_packet(pcap_t *in, const char *name, struct pcap_pkthdr **header, const uint8_t **packet)
 {
@@ -108,13 +117,13 @@ static void send_on(pcap_dumper_t *out, struct timeval time, const uint8_t *resu
 }
 
 /* The ICMPv6 message about a packet that was refused, where one is due. A real forwarder limits their rate (RFC 4443, section 2.4 f). */
-static void send_message(pcap_dumper_t *out, struct timeval time, const uint8_t *packet, size_t length)
+static void send_message(struct timeval time, const uint8_t *packet, size_t length)
 {
     uint8_t message[KAWSARPA_ICMP_MAX];
     const uint64_t answer = kawsarpa_call_icmp_ipv6(packet, length, table, table_len, message, sizeof message);
     if (kawsarpa_answer_number(answer) != KAWSARPA_ANSWER_SENT)
         return;
-    send_on(out, time, message, kawsarpa_answer_length(answer));
+    send_on(icmp_out, time, message, kawsarpa_answer_length(answer));
     counts.messages++;
 }
 
@@ -147,11 +156,11 @@ static void forward(pcap_dumper_t *out)
         send_on(out, burst.times[result.packet], burst.out + result.at, result.length);
         counts.echo_answered += kawsarpa_is_echo_response(burst.out + result.at, result.length) != 0;
     }
-    /* and each answer; a refusal that has an ICMP type has a message too, unless none is due */
+    /* and each answer; of a refusal its ICMP fields say what to send back, if anything (kawsarpa_answer_icmp_type and so on) */
     for (i = 0; i < burst.count; packet += burst.lengths[i++]) {
         counts.answers[kawsarpa_answer_number(burst.answers[i])]++;
-        if (kawsarpa_answer_icmp_type(burst.answers[i]) != 0)
-            send_message(out, burst.times[i], packet, burst.lengths[i]);
+        if (icmp_out != NULL && kawsarpa_answer_icmp_type(burst.answers[i]) != 0)
+            send_message(burst.times[i], packet, burst.lengths[i]);
     }
 
     counts.bursts++;
@@ -186,13 +195,14 @@ static void say_counts(void)
         if (number == KAWSARPA_ANSWER_SENT && counts.echo_answered > 0)
             printf("%8lu  %2u Echo Request answered\n", counts.echo_answered, number);
     }
-    if (counts.messages > 0)
+    if (icmp_out != NULL)
         printf("ICMPv6 messages sent: %lu\n", counts.messages);
 }
 
 int main(int argc, char **argv)
 {
     static const char usage[] = "usage: forwarder TABLE IN.pcap OUT.pcap\n"
+                                "       forwarder TABLE IN.pcap OUT.pcap ICMP.pcap\n"
                                 "TABLE is made by `kawsarpa compile', the captures are of raw IP.\n"
                                 "Exit codes: 0 done; 1 the table is not sound, or the capture bad; 2 wrong usage; 3 the system failed.\n";
     const bool help = argc == 2 && strcmp(argv[1], "--help") == 0;
@@ -201,19 +211,20 @@ int main(int argc, char **argv)
     pcap_dumper_t *out;
     pcap_t *in;
 
-    if (argc != 4) {
+    if (argc != 4 && argc != 5) {
         fputs(usage, help ? stdout : stderr);
         return help ? DONE : WRONG_USAGE;
     }
     load_table(argv[1]);
     in = open_in(argv[2]);
     out = open_out(argv[3]);
+    icmp_out = argc == 5 ? open_out(argv[4]) : NULL;
     while (next_packet(in, argv[2], &header, &packet))
         gather(out, header, packet);
     forward(out); /* the rest; at a port, also where no packet waits */
-    if (pcap_dump_flush(out) != 0 || ferror(pcap_dump_file(out)) != 0)
-        fail(SYSTEM_FAILED, argv[3], strerror(errno));
-    pcap_dump_close(out);
+    close_out(out, argv[3]);
+    if (icmp_out != NULL)
+        close_out(icmp_out, argv[4]);
     pcap_close(in);
     say_counts();
     return DONE;

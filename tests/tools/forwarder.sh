@@ -1,6 +1,7 @@
 #!/usr/bin/env bash
-# forwarder.sh TOOL LIB: examples/forwarder is built, without a warning and with the sanitizers. Over the yard's captures, those of icmp.py
-# and drawn ones it sends what `kawsarpa translate --icmp` sends, and counts what that counts. What its README shows; its faults.
+# forwarder.sh TOOL LIB: examples/forwarder is built, without a warning and with the sanitizers. Over the yard's captures and drawn ones it
+# sends what `kawsarpa translate` sends, and counts what that counts; with a fourth name the same of ICMPv6 messages. What its README shows;
+# its faults.
 set -eu
 
 if [ $# -ne 2 ]; then
@@ -30,21 +31,14 @@ answers() {
     grep -E '^ *[0-9]+  [ 0-9][0-9] ' stdout || true
 }
 
-# What the forwarder sends and counts is what the tool does. The order of packets is that of the capture, and so is that of ICMPv6 messages,
-# which the tool writes into a capture of their own.
+# What the forwarder sends and counts is what the tool does. The order of packets is that of the capture.
 alike() { # TABLE CAPTURE
-    local messages
-    run 0 translate --table "$1" --icmp messages.expected "$2" sent.expected
-    answers >answers.expected
-    messages=$(sed -n 's/^ICMPv6 messages: \([0-9]*\) written, .*/\1/p' stdout)
-    forward 0 "$1" "$2" all.pcap
-    python3 -B "$here/apart.py" all.pcap sent.pcap messages.pcap
-    same sent.pcap sent.expected
-    same messages.pcap messages.expected
-    answers | diff answers.expected - >&2 || fail "$2: answers are counted otherwise"
-    [ "$(sed -n 's/^ICMPv6 messages sent: //p' stdout)" = "${messages#0}" ] || fail "$2: messages are counted otherwise"
-    checks=$((checks + 2))
-    found=$((${found-0} + messages))
+    run 0 translate --table "$1" "$2" expected.pcap
+    answers >expected
+    forward 0 "$1" "$2" sent.pcap
+    same sent.pcap expected.pcap
+    answers | diff expected - >&2 || fail "$2: answers are counted otherwise"
+    checks=$((checks + 1))
 }
 
 for name in office gate mast crane; do
@@ -54,28 +48,19 @@ python3 "$top/examples/yard/make-capture.py" .
 
 ### the yard's captures, as raw IP
 
-for pair in downlink:office uplink:crane refused:office numbered:crane numbered:gate; do
+for pair in downlink:office uplink:crane numbered:crane numbered:gate; do
     python3 -B "$here/raw.py" "${pair%:*}.pcap" raw.pcap
     alike "${pair#*:}" raw.pcap
 done
 grep -qx 'packets 18, bursts 9; frames left out 0' stdout || fail "not 18 packets in 9 bursts"
 
-### every ICMPv6 message that is due, and those that are not
-
-python3 -B "$here/icmp.py" .
-run 0 compile stops.yaml -o stops
-alike stops icmp-refused.pcap
-grep -qx 'ICMPv6 messages sent: 47' stdout || fail "not 47 messages are sent"
-alike stops icmp-many.pcap
-alike stops icmp-none.pcap
-
 ### drawn captures: bursts that are full, both versions, long packets, refusals, Echo Requests, frames that are left out
 
 python3 -B "$here/bursts.py" . 2 40
-whole=0 found=0
+whole=0
 for ((number = 0; number < 40; number++)); do
     code=0
-    "$tool" translate -q --table office drawn-$number.pcap sent.expected 2>/dev/null || code=$?
+    "$tool" translate -q --table office drawn-$number.pcap expected.pcap 2>/dev/null || code=$?
     if [ "$code" -ne 0 ]; then # cut or damaged
         forward 1 office drawn-$number.pcap sent.pcap
     else
@@ -84,14 +69,55 @@ for ((number = 0; number < 40; number++)); do
     fi
 done
 [ "$whole" -gt 20 ] || fail "of the drawn captures only $whole are whole"
-[ "$found" -gt 20 ] || fail "only $found messages are due in the drawn captures"
 alike office behind.pcap
 grep -qx 'packets 39, bursts 2; frames left out 1' stdout || fail "not 39 packets in 2 bursts, and one left out"
+
+### ICMPv6 messages: of the yard's captures, of those of icmp.py, which have every one that is due, and those that are not, and of drawn ones
+
+# What the forwarder sends and counts is what the tool does, and both write the messages into a capture of their own.
+alike_told() { # TABLE CAPTURE
+    local messages
+    run 0 translate --table "$1" --icmp messages.expected "$2" sent.expected
+    answers >answers.expected
+    messages=$(sed -n 's/^ICMPv6 messages: \([0-9]*\) written, .*/\1/p' stdout)
+    forward 0 "$1" "$2" sent.pcap messages.pcap
+    same sent.pcap sent.expected
+    same messages.pcap messages.expected
+    answers | diff answers.expected - >&2 || fail "$2: answers are counted otherwise, with messages"
+    grep -qx "ICMPv6 messages sent: $messages" stdout || fail "$2: messages are counted otherwise"
+    checks=$((checks + 2))
+    found=$((found + messages))
+}
+found=0
+for pair in downlink:office uplink:crane refused:office numbered:crane numbered:gate; do
+    python3 -B "$here/raw.py" "${pair%:*}.pcap" raw.pcap
+    alike_told "${pair#*:}" raw.pcap
+done
+python3 -B "$here/icmp.py" .
+run 0 compile stops.yaml -o stops
+alike_told stops icmp-refused.pcap
+grep -qx 'ICMPv6 messages sent: 47' stdout || fail "not 47 messages are sent"
+alike_told stops icmp-many.pcap
+alike_told stops icmp-none.pcap
+whole=0 found=0
+for ((number = 0; number < 40; number++)); do
+    code=0
+    "$tool" translate -q --table office refused-$number.pcap sent.expected 2>/dev/null || code=$?
+    if [ "$code" -ne 0 ]; then # cut or damaged
+        forward 1 office refused-$number.pcap sent.pcap messages.pcap
+    else
+        alike_told office refused-$number.pcap
+        whole=$((whole + 1))
+    fi
+done
+[ "$whole" -gt 20 ] || fail "of the drawn captures with refusals only $whole are whole"
+[ "$found" -gt 20 ] || fail "only $found messages are due in the drawn captures"
+alike_told office behind.pcap
 
 ### what its README shows
 
 mkdir shown
-cp office gate mast crane numbered.pcap "$top/examples/yard/crane.yaml" shown
+cp office gate mast crane numbered.pcap "$top"/examples/yard/{mast,crane}.yaml shown
 ln -s ../forwarder shown/forwarder
 ln -s "$tool" shown/kawsarpa
 sed -n '/^## A run$/,$s/^    //p' "$top/examples/forwarder/README.md" >shown.expected
@@ -127,6 +153,11 @@ complained "forwarder: numbered.pcap: not a capture of raw IP"
 forward 3 office raw.pcap nowhere/sent.pcap
 complained "nowhere/sent.pcap: No such file or directory"
 forward 3 office behind.pcap /dev/full
+complained "forwarder: /dev/full: No space left on device"
+forward 2 office raw.pcap sent.pcap messages.pcap more
+forward 3 office raw.pcap sent.pcap nowhere/messages.pcap
+complained "nowhere/messages.pcap: No such file or directory"
+forward 3 stops icmp-refused.pcap sent.pcap /dev/full
 complained "forwarder: /dev/full: No space left on device"
 
 echo "forwarder.sh: all $checks checks hold"

@@ -17,9 +17,9 @@ mkdir out
 python3 -B "$here/icmp.py" .
 run 0 compile stops.yaml -o stops
 [ ! -s stderr ] || fail "compile warns"
-for name in office gate; do
-    run 0 compile "$top/examples/yard/$name.yaml" -o $name
-done
+run 0 compile "$top/examples/yard/office.yaml" -o office
+sed 's/hop-limit: 64/&\n    source: "2001:db8:f::3"/' "$top/examples/yard/gate.yaml" >gate.yaml
+run 0 compile gate.yaml -o gate
 python3 -B "$top/examples/yard/make-capture.py" .
 
 # After a failure nothing is left, under a final name or beside it.

@@ -3,8 +3,8 @@ for each link type over PACKETS packets mutated in sound ones.
 
 TOOL is best built with the sanitizers. OFFICE to CRANE are the yard's tables, EVERYWHERE one that leads every address to End.M.GTP6.D or to
 a rule, CAPTURES a directory that captures.py and the yard's make-capture.py have filled. Every run has to end with an exit code of the
-list, quietly, and to leave its output exactly when it says so: after a failure only where the capture is cut. With the packets that are
-sent come the ICMPv6 messages, or neither.
+list, quietly, and to leave its output exactly when it says so: after a failure only where the capture is cut. So with --icmp, where the
+packets that are sent come with the ICMPv6 messages, or neither.
 What arrives is as it went in, since the yard's tables fit. What loss does not count has no S, is an Echo Request, or translate refuses it
 by EVERYWHERE, which allows UDP checksum 0: half of the packets have that. Loss does not examine checksums: what translate refuses with 18
 may be anything from 10 on there.
@@ -85,7 +85,7 @@ def run(arguments: list[str], codes: list[int], out: Path, messages: Path) -> tu
         fault = "no output"
     elif arguments[1] != "trip" and done.returncode != 0 and written and ": the capture is cut here" not in done.stderr:
         fault = "output after a failure"
-    elif arguments[1] == "translate" and messages.exists() != written:
+    elif "--icmp" in arguments and messages.exists() != written:
         fault = "one output of two"
     return fault, done.stdout
 
@@ -129,16 +129,18 @@ def main() -> None:
 
     with tempfile.TemporaryDirectory() as directory:
         capture, out, messages = (Path(directory) / name for name in ("in.pcap", "out.pcap", "messages.pcap"))
-        translate = [tool, "translate", "--table", office, "--trace", "--icmp", str(messages), str(capture), str(out)]
+        translate = [tool, "translate", "--table", office, "--trace", str(capture), str(out)]
         trip = [tool, "trip", "--near", office, "--via", gate, "--via", mast, "--far", crane, str(capture), "-o", str(out)]
-        by_everywhere = [tool, "translate", "--table", everywhere, "--icmp", str(messages), str(capture), str(out)]
+        by_everywhere = [tool, "translate", "--table", everywhere, str(capture), str(out)]
         loss = [tool, "loss", str(capture)]
+        told = [tool, "translate", "--table", office, "--trace", "--icmp", str(messages), str(capture), str(out)]
+        told_by_everywhere = [tool, "translate", "--table", everywhere, "--icmp", str(messages), str(capture), str(out)]
 
         def judge(what: str) -> None:
-            commands = [translate, trip, by_everywhere, loss]
+            commands = [translate, trip, by_everywhere, loss, told, told_by_everywhere]
             results = [run(arguments, [0, 1], out, messages) for arguments in commands]
             faults = [f"{arguments[1]}: {fault}" for arguments, (fault, _) in zip(commands, results) if fault]
-            travelled, refused, report = (printed for _, printed in results[1:])
+            travelled, refused, report = (printed for _, printed in results[1:4])
             if "arrived, but not" in travelled:
                 faults.append("trip: a packet arrived changed")
             if not same_reasons(refusals(report), refusals(refused)):
