@@ -243,25 +243,36 @@ static void say_icmp(FILE *to, const struct packet_reading *reading)
         fprintf(to, ", pointer %u", (unsigned int)icmp.pointer);
 }
 
+static void say_addresses(FILE *to, const struct packet_reading *reading)
+{
+    char source[ADDRESS_ROOM];
+    char destination[ADDRESS_ROOM];
+    fprintf(to, "IPv%u %s > %s, traffic class 0x%02x", reading->version, address_text(reading->version, reading->source, source),
+            address_text(reading->version, reading->destination, destination), reading->traffic_class);
+}
+
 void packet_describe(FILE *to, const uint8_t *packet, size_t length)
 {
     const struct packet_reading reading = packet_read(packet, length);
-    char source[ADDRESS_ROOM];
-    char destination[ADDRESS_ROOM];
     if (reading.version == 0) {
         fprintf(to, "%zu octets, no IP header", length);
         return;
     }
-    fprintf(to, "IPv%u %s > %s, traffic class 0x%02x", reading.version, address_text(reading.version, reading.source, source),
-            address_text(reading.version, reading.destination, destination), reading.traffic_class);
+    say_addresses(to, &reading);
     if (reading.has_srh)
         say_segments(to, &reading);
     if (reading.has_gtpu)
         say_gtpu(to, &reading);
-    else if (reading.icmp != NULL)
-        say_icmp(to, &reading);
     else
         say_next_header(to, reading.next_header);
+    fprintf(to, ", %zu octets", length);
+}
+
+void icmp_describe(FILE *to, const uint8_t *message, size_t length)
+{
+    const struct packet_reading reading = packet_read(message, length);
+    say_addresses(to, &reading);
+    say_icmp(to, &reading);
     fprintf(to, ", %zu octets", length);
 }
 

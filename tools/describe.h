@@ -48,6 +48,9 @@ struct packet_reading packet_read(const uint8_t *packet, size_t length);
 /* One line without its end. */
 void packet_describe(FILE *to, const uint8_t *packet, size_t length);
 
+/* The same of an ICMPv6 message of the library, with its type, code and pointer in the place of its next header. */
+void icmp_describe(FILE *to, const uint8_t *message, size_t length);
+
 /* The same as a JSON object. */
 void packet_json(struct json *json, const char *name, const uint8_t *packet, size_t length);
 

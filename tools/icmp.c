@@ -60,7 +60,7 @@ void icmp_say(FILE *to, const struct icmp_message *message)
         fprintf(to, "none is due: %s", message->reason);
         return;
     }
-    packet_describe(to, message->octets, message->length);
+    icmp_describe(to, message->octets, message->length);
     if (message->from_unspecified)
         fputs("; routers drop it, since the entry has no source", to);
 }

@@ -110,11 +110,26 @@ rm out/*
 run 0 translate --table stops --icmp /dev/null icmp-refused.pcap /dev/null
 [ -c /dev/null ] || fail "/dev/null was replaced"
 
-### what is said of ICMPv6 in a capture
+### what is said of ICMPv6 in a capture: its next header, and in JSON type, code and pointer
 
 run 0 translate --table stops --trace icmp-read.pcap out/sent.pcap
 rm out/*
 sed -i -n 's/^packet .*, traffic class 0x00, \(SL 1 then 2001:db8:5::1, \|\)\(.*\)/\2/p' stdout
+all_printed < <(printf 'next header 58, %s octets\n' 72 72 72 72 72 72 72 72 72 72 72 72 72 71 66 65 64 28)
+
+run 0 translate --table stops --trace --json icmp-read.pcap out/sent.pcap
+rm out/*
+python3 -c '
+import json
+for packet in json.load(open("stdout", encoding="ascii"))["packets"]:
+    icmp = packet["in"].get("icmp")
+    line = "next header %d" % packet["in"]["next_header"]
+    if icmp:
+        line = "ICMPv6 " + icmp.get("name", "type %d" % icmp["type"])
+        line += "".join(", %s %d" % (key, icmp[key]) for key in ("code", "pointer") if key in icmp)
+    print("%s, %d octets" % (line, packet["in"]["octets"]))
+' >lines
+mv lines stdout
 all_printed <<'END'
 ICMPv6 type 0, code 0, 72 octets
 ICMPv6 Destination Unreachable, code 0, 72 octets

@@ -113,7 +113,8 @@ def icmp(members: Members) -> str:
             ("" if pointer is None else f", pointer {pointer}")
 
 
-def packet(members: Members) -> str:
+def packet(members: Members, told: bool = False) -> str:
+    """Of an ICMPv6 message that tells a sender, what it tells."""
     with members as m:
         version, octets = m.may("version", int), m.number("octets")
         if version is None:
@@ -131,7 +132,9 @@ def packet(members: Members) -> str:
             expect(m.may("inside", str), INSIDE.get(following), "inside")
             if "icmp" in m.left:
                 expect((version, following), (6, 58), "what holds ICMPv6")
-                return f"{line}, {icmp(m.object('icmp'))}, {octets} octets"
+                words = icmp(m.object("icmp"))
+                if told:
+                    return f"{line}, {words}, {octets} octets"
             return f"{line}, {INSIDE[following]} inside, {octets} octets" if following in INSIDE else \
                 f"{line}, next header {following}, {octets} octets"
         expect(m.may("message", str), MESSAGES.get(kind), "message")
@@ -176,7 +179,7 @@ def about(m: Members) -> str:
     """The ICMPv6 message about a packet, or why none is due."""
     if "none_due" in m.left:
         return f"none is due: {m.text('none_due')}"
-    words = packet(m.object("icmp_message"))
+    words = packet(m.object("icmp_message"), True)
     return words + ("; routers drop it, since the entry has no source" if words.startswith("IPv6 :: >") else "")
 
 
