@@ -31,19 +31,17 @@ find_rule-found-requires c = (
 
 pub rule_at-r-requires : goal.rule_at-r-requires
 rule_at-r-requires c =
-    let s = c in
-    let a = s.args in
-    found-rule_within a.table.now s.requires.0 (Ipv4.destination a.packet.now) _ (found-is a.table.now a.packet.now c.window4-destination.ensures
+    let a = c.args in
+    found-rule_within a.table.now c.requires.0 (Ipv4.destination a.packet.now) _ (found-is a.table.now a.packet.now c.window4-destination.ensures
     c.find_rule-found.ensures c.in-At.is)
 
 pub at_d4-answer-requires : goal.at_d4-answer-requires
 at_d4-answer-requires c =
-    let s = c in
-    let a = s.args in
+    let a = c.args in
     let l = c.rule_at-r.ensures in
-    let q = found-rule entry_limit a.table.now (Ipv4.destination a.packet.now) _ s.requires.0
+    let q = found-rule entry_limit a.table.now (Ipv4.destination a.packet.now) _ c.requires.0
     (found-is a.table.now a.packet.now c.window4-destination.ensures c.find_rule-found.ensures c.in-At.is) in
-    record { octets = l.long; sound = subst SoundRule (sym l.same) q; arrived = s.requires.1 }
+    record { octets = l.long; sound = subst SoundRule (sym l.same) q; arrived = c.requires.1 }
 
 pub returns-in-Nothing : goal.returns-in-Nothing
 unfolding settle

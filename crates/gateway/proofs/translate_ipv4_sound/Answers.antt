@@ -28,10 +28,9 @@ module _ (p : List ℕ) {front : List ℕ} {h : Header4} (read : front ≡ windo
 pub returns-then-is_malformed4 : goal.returns-then-is_malformed4
 unfolding rule_found
 returns-then-is_malformed4 c =
-    let s = c in
-    let a = s.args in
+    let a = c.args in
     let m = tested a.packet.now c.window20.ensures c.header4_of-h.ensures c.is_malformed4.ensures c.if-is_malformed4.true in
-    let refused = malformed_4 a.packet.now a.table.now (length a.out.now) s.requires m in
+    let refused = malformed_4 a.packet.now a.table.now (length a.out.now) c.requires m in
     record {
       answered = answered_named _ (plain 2) _ _ _ refused c.malformed.ensures c.refused.ensures;
       found = rw m;
@@ -41,11 +40,10 @@ returns-then-is_malformed4 c =
 pub returns-then-bad_header4 : goal.returns-then-bad_header4
 unfolding rule_found
 returns-then-bad_header4 c =
-    let s = c in
-    let a = s.args in
+    let a = c.args in
     let m = tested a.packet.now c.window20.ensures c.header4_of-h.ensures c.is_malformed4.ensures c.if-is_malformed4.false in
     let b = tested-3 a.packet.now c.window20.ensures c.header4_of-h.ensures c.bad_header4.ensures c.if-bad_header4.true in
-    let refused = bad_4 a.packet.now a.table.now (length a.out.now) s.requires m b in
+    let refused = bad_4 a.packet.now a.table.now (length a.out.now) c.requires m b in
     record {
       answered = answered_named _ (plain 3) _ _ _ refused c.bad_header4-then-bad_header4.ensures c.refused-then-bad_header4.ensures;
       found = rw (m, b);
@@ -54,9 +52,9 @@ returns-then-bad_header4 c =
 
 pub at_match4-requires : goal.at_match4-requires
 at_match4-requires c =
-    let s = c in (
-      s.requires,
-      well_formed4 s.args.packet.now _ (viewed s.args.packet.now c.window20.ensures c.header4_of-h.ensures)
+    (
+      c.requires,
+      well_formed4 c.args.packet.now _ (viewed c.args.packet.now c.window20.ensures c.header4_of-h.ensures)
           (sym c.is_malformed4.ensures ∙ c.if-is_malformed4.false)
           (omega (arith, c)),
     )
@@ -64,13 +62,12 @@ at_match4-requires c =
 pub returns : goal.returns
 unfolding rule_found
 returns c =
-    let s = c in
-    let a = s.args in
+    let a = c.args in
     let m = tested a.packet.now c.window20.ensures c.header4_of-h.ensures c.is_malformed4.ensures c.if-is_malformed4.false in
     let b = tested-3 a.packet.now c.window20.ensures c.header4_of-h.ensures c.bad_header4.ensures c.if-bad_header4.false in
     let d = c.at_match4.ensures in
     record {
-      answered = answered_as _ _ _ _ _ (matched4 a.packet.now a.table.now (length a.out.now) s.requires m b) d.answered;
+      answered = answered_as _ _ _ _ _ (matched4 a.packet.now a.table.now (length a.out.now) c.requires m b) d.answered;
       found = rw (m, b) d.found;
       upperAt = d.upperAt;
     }

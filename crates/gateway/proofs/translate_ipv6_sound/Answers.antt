@@ -25,10 +25,9 @@ module _ (p : List ℕ) {front : List ℕ} {h : Header} (read : front ≡ window
 pub returns-then-is_malformed : goal.returns-then-is_malformed
 unfolding entry_found
 returns-then-is_malformed c =
-    let s = c in
-    let a = s.args in
+    let a = c.args in
     let m = tested a.packet.now c.window48-front.ensures c.header_of-h.ensures c.is_malformed.ensures c.if-is_malformed.true in
-    let refused = malformed6 a.packet.now a.table.now (length a.out.now) s.requires m in
+    let refused = malformed6 a.packet.now a.table.now (length a.out.now) c.requires m in
     record {
       answered = answered_named _ (plain 2) _ _ _ refused c.malformed.ensures c.refused.ensures;
       found = rw m;
@@ -37,22 +36,20 @@ returns-then-is_malformed c =
 
 pub at_match-requires : goal.at_match-requires
 at_match-requires c =
-    let s = c in
     let clear = sym c.is_malformed.ensures ∙ c.if-is_malformed.false in (
-      s.requires,
-      well_formed s.args.packet.now _ (viewed s.args.packet.now c.window48-front.ensures c.header_of-h.ensures) clear (omega (arith, c)),
+      c.requires,
+      well_formed c.args.packet.now _ (viewed c.args.packet.now c.window48-front.ensures c.header_of-h.ensures) clear (omega (arith, c)),
       c.window48-front.ensures,
     )
 
 pub returns : goal.returns
 unfolding entry_found
 returns c =
-    let s = c in
-    let a = s.args in
+    let a = c.args in
     let m = tested a.packet.now c.window48-front.ensures c.header_of-h.ensures c.is_malformed.ensures c.if-is_malformed.false in
     let d = c.at_match.ensures in
     record {
-      answered = answered_as _ _ _ _ _ (matched6 a.packet.now a.table.now (length a.out.now) s.requires m) d.answered;
+      answered = answered_as _ _ _ _ _ (matched6 a.packet.now a.table.now (length a.out.now) c.requires m) d.answered;
       found = rw m d.found;
       upperAt = d.upperAt ∙ ap (λ (h : Header). h.upperAt) (viewed a.packet.now c.window48-front.ensures c.header_of-h.ensures);
     }

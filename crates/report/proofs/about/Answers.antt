@@ -30,16 +30,14 @@ returns-then-none_due c =
 
 pub find_entry-found-requires : goal.find_entry-found-requires
 find_entry-found-requires c =
-    let s = c in
-    (entries_within_lem s.args.table.now s.requires, omega (arith, c))
+    (entries_within_lem c.args.table.now c.requires, omega (arith, c))
 
 pub entry_at-requires : goal.entry_at-requires
 entry_at-requires c =
-    let s = c in
-    let t = s.args.table.now in
+    let t = c.args.table.now in
     let to = c.window16-destination.ensures in
-    let m = matched t s.args.packet.now to c.find_entry-found.ensures c.in-At.is in
-    found-entry_within t s.requires _ _ m
+    let m = matched t c.args.packet.now to c.find_entry-found.ensures c.in-At.is in
+    found-entry_within t c.requires _ _ m
 
 pub returns-in-Nothing : goal.returns-in-Nothing
 returns-in-Nothing c =
@@ -54,16 +52,14 @@ returns-in-Nothing c =
 
 pub returns-in-At : goal.returns-in-At
 returns-in-At c =
-    let k = c in
-    let b = k in
-    let a = b.args in
+    let a = c.args in
     let t = a.table.now in
     let p = a.packet.now in
     let o = length a.out.now in
-    let to = k.window16-destination.ensures in
-    let m = matched t p to k.find_entry-found.ensures k.found-1.given.1 in
-    let due = sym b.none_due.ensures ∙ b.if-none_due.false in
-    let e = k.entry_at.ensures.same in
+    let to = c.window16-destination.ensures in
+    let m = matched t p to c.find_entry-found.ensures c.in-At.is in
+    let due = sym c.none_due.ensures ∙ c.if-none_due.false in
+    let e = c.entry_at.ensures.same in
     let sent : report_of t p (match_entry t (Ipv6.destination p)) (Refused a.r) ≡ Sent (icmp_packet _ a.r p) =
     ap (λ (f : Found). report_of t p f (Refused a.r)) m ∙ report_sent t p _ a.r due
     ∙ ap (λ (e : List ℕ). Sent (icmp_packet e a.r p)) (sym e) in

@@ -17,11 +17,10 @@ returns-then-not-sound c =
 
 pub returns : goal.returns
 returns c =
-    let k = c in
-    let a = k.args in
+    let a = c.args in
     let answer = c.decided.ensures in
     let refusal = c.refusal_in-r.ensures in
-    let octets : Octets a.packet.now = λ i. (k.type_inv.packet i).fits in
+    let octets : Octets a.packet.now = λ i. (c.type_inv.packet i).fits in
     let same = reported a.packet.now a.table.now octets _ _ answer refusal (length a.out.now) in
     answered-packed _ _ _ _ _ (answered_as _ _ _ _ _ same c.about-a.ensures) (omega arith) (omega arith)
     (omega arith) (omega arith) c.pack-2.ensures

@@ -10,10 +10,9 @@ use Rattle.report.proofs.none_due.Goals as goal
 pub returns : goal.returns
 unfolding header
 returns c =
-    let b = c in
-    let a = b.args in
+    let a = c.args in
     let p = a.packet.now in
-    let view = b.header_of-h.ensures ∙ ap (λ (f : List ℕ). header_of f (length p)) b.window48.ensures
+    let view = c.header_of-h.ensures ∙ ap (λ (f : List ℕ). header_of f (length p)) c.window48.ensures
     ∙ header_front p (length p) in
     let source = c.window16-source.ensures in
     let kind = c.octet_or_0-kind.ensures in

@@ -15,24 +15,21 @@ loop-i-init c = serving-start _ _ _ _ _ _
 
 pub overflow_add-end : goal.overflow_add-end
 overflow_add-end c =
-    let s = c in
     let l = c.loop-i in
-    omega (arith, place_next _ _ _ l.i _ s.requires.0 (omega arith) l.invariant.at, c.wide.ensures.0)
+    omega (arith, place_next _ _ _ l.i _ c.requires.0 (omega arith) l.invariant.at, c.wide.ensures.0)
 
 pub one-answer-requires : goal.one-answer-requires
 one-answer-requires c =
-    let s = c in
     let l = c.loop-i in (
       omega arith,
-      omega (arith, place_next _ _ _ l.i _ s.requires.0 (omega arith) l.invariant.at, c.wide.ensures.0),
+      omega (arith, place_next _ _ _ l.i _ c.requires.0 (omega arith) l.invariant.at, c.wide.ensures.0),
       omega (arith, l.invariant.within, l.invariant.same),
-      s.requires.1,
+      c.requires.1,
     )
 
 pub loop-i-preserved : goal.loop-i-preserved
 loop-i-preserved c =
-    let s = c in
-    let a = s.args in
+    let a = c.args in
     let l = c.loop-i in
     let p : List ℕ = a.packets.now in
     let n : ℕ = get_or a.lengths.now l.i 0 in
@@ -43,7 +40,7 @@ loop-i-preserved c =
     l.out one.result _ = rw cut at one.ensures in
     rw (add-one, w.ensures.0, c.size_of-used.ensures)
     (serving_next (version_of a.ipv6) a.lengths.now p a.table.now a.out.now a.answers.now l.out l.answers _
-    l.i l.place l.used one.result l.invariant (omega arith) s.requires.0.placed r one.auto.out)
+    l.i l.place l.used one.result l.invariant (omega arith) c.requires.0.placed r one.auto.out)
 
 pub returns : goal.returns
 returns c =
