@@ -1,4 +1,6 @@
 // Whether near, waypoint and far tables fit, told from the tables alone: 0 where they do, and else the first condition that fails.
+#![tactic(auto)]
+
 ghost use Rattle.std.specs.Prelude.{◌≡◌, ◌≤◌, ◌<◌, length};
 ghost use Rattle.rules.specs.Table.{entries, rules_at};
 ghost use Rattle.rules.specs.Rule as Rule;

@@ -1,4 +1,6 @@
 // The call that reports by ICMPv6 (RFC 4443): whether a message is due about a packet that the IPv6 call refused, and the message.
+#![tactic(auto)]
+
 ghost use Rattle.std.specs.Prelude.{◌≡◌, true, ◌/◌, ◌%◌, length};
 ghost use Rattle.rules.specs.Ipv6 as Ipv6;
 ghost use Rattle.rules.specs.Sound.{sound};

@@ -1,5 +1,7 @@
 // A burst served (order 3): the table is judged once; then the unused rest of the output is lent on to the call of one packet, packet
 // after packet.
+#![tactic(auto)]
+
 ghost use Rattle.std.specs.Prelude.{◌≡◌, true, ◌-◌, ◌≤◌, ◌<◌, length, take, drop, replicate};
 ghost use Rattle.rules.specs.Octets.{splice};
 ghost use Rattle.rules.specs.Sound.{sound};

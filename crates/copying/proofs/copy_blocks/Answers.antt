@@ -12,19 +12,17 @@ loop-done-init c = let a = c.args in (omega arith, sym (splice-nil a.out.now a.a
 
 pub loop-done-preserved : goal.loop-done-preserved
 loop-done-preserved c =
-    let s = c in
     let l = c.loop-done in
     let e = simp part_count at c.copy_block.ensures in (
       omega arith,
-      chain_part s.args.out.now s.args.src.now s.args.at l.done 2048 l.invariant.1 e l.invariant.0
-          (omega (arith, s)),
+      chain_part c.args.out.now c.args.src.now c.args.at l.done 2048 l.invariant.1 e l.invariant.0
+          (omega (arith, c)),
       c.copy_block.auto.out ∙ l.invariant.2,
     )
 
 pub returns : goal.returns
 returns c =
-    let s = c in
     let l = c.loop-done in
-    chain_part s.args.out.now s.args.src.now s.args.at l.done (length s.args.src.now - l.done) l.invariant.1
-    c.copy_block-2.ensures l.invariant.0 (omega (arith, s))
+    chain_part c.args.out.now c.args.src.now c.args.at l.done (length c.args.src.now - l.done) l.invariant.1
+    c.copy_block-2.ensures l.invariant.0 (omega (arith, c))
     ∙ rw (add-sub_of_le l.invariant.0, take-length)

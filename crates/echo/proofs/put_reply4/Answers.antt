@@ -6,5 +6,4 @@ use Rattle.echo.proofs.put_reply4.Goals as goal
 pub returns : goal.returns
 returns c =
     let r = c.put_ipv4.ensures in
-    let s = c in
-    next r _ 22 c.copy_to.ensures (omega (arith, s)) refl (omega arith)
+    next r _ 22 c.copy_to.ensures (omega (arith, c)) refl (omega arith)

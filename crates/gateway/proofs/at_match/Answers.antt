@@ -13,10 +13,10 @@ use mathlib.Core.List.{List}
 use mathlib.Core.Path.{◌≡◌, refl, sym, ap, ◌∙◌}
 use Rattle.gateway.proofs.at_match.Goals as goal
 
-found-is : (c : goal.After-find_entry-found) → let a = c.args in match_entry a.table.now
-    (Ipv6.destination a.packet.now) ≡ c.find_entry-found.result
-found-is c = sym (c.find_entry-found.ensures ∙ ap (match_entry c.args.table.now)
-    c.window16-destination.ensures)
+-- the match of the destination that was read is what was found
+found-is : (t p : List ℕ) {to : List ℕ} {f g : Found} → to ≡ Ipv6.destination p → f ≡ match_entry t to → f ≡ g
+    → match_entry t (Ipv6.destination p) ≡ g
+found-is t p w e is = sym (e ∙ ap (match_entry t) w) ∙ is
 
 pub find_entry-found-requires : goal.find_entry-found-requires
 find_entry-found-requires c = (
@@ -32,7 +32,7 @@ returns-in-Nothing c =
     let t : List ℕ = a.table.now in
     let p : List ℕ = a.packet.now in
     let room : ℕ = length a.out.now in
-    let f = found-is c ∙ c.enum_told-1.given.1 in
+    let f = found-is t p c.window16-destination.ensures c.find_entry-found.ensures c.in-Nothing.is in
     record {
       answered = answered_named _ (plain 4) _ _ _ (ap (λ (f : Found). settle room (at_found_entry t p f)) f ∙ ap (settle room) (at_no_entry t
           p)) c.no_match.ensures c.refused.ensures;
@@ -46,7 +46,7 @@ returns-in-At c =
     let t : List ℕ = a.table.now in
     let p : List ℕ = a.packet.now in
     let room : ℕ = length a.out.now in
-    let f = found-is c ∙ c.found-1.given.1 in
+    let f = found-is t p c.window16-destination.ensures c.find_entry-found.ensures c.in-At.is in
     record {
       answered = answered_as _ _ _ _ _ (ap (settle room) (sym (at_found-entry t p _)) ∙ ap (λ (f : Found). settle room (at_found_entry t p
           f)) (sym f)) c.at_entry-answer.ensures;

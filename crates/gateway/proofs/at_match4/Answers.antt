@@ -17,10 +17,10 @@ use mathlib.Core.List.{List}
 use mathlib.Core.Path.{◌≡◌, refl, sym, ap, ◌∙◌, subst}
 use Rattle.gateway.proofs.at_match4.Goals as goal
 
-found-is : (c : goal.After-find_rule-found) → let a = c.args in match_rule a.table.now
-    (Ipv4.destination a.packet.now) ≡ c.find_rule-found.result
-found-is c = sym (c.find_rule-found.ensures ∙ ap (match_rule c.args.table.now)
-    c.window4-destination.ensures)
+-- the match of the destination that was read is what was found
+found-is : (t p : List ℕ) {to : List ℕ} {f g : Found} → to ≡ Ipv4.destination p → f ≡ match_rule t to → f ≡ g
+    → match_rule t (Ipv4.destination p) ≡ g
+found-is t p w e is = sym (e ∙ ap (match_rule t) w) ∙ is
 
 pub find_rule-found-requires : goal.find_rule-found-requires
 find_rule-found-requires c = (
@@ -31,19 +31,17 @@ find_rule-found-requires c = (
 
 pub rule_at-r-requires : goal.rule_at-r-requires
 rule_at-r-requires c =
-    let s = c in
-    let a = s.args in
-    found-rule_within a.table.now s.requires.0 (Ipv4.destination a.packet.now) _ (found-is c ∙
-    c.found-1.given.1)
+    let a = c.args in
+    found-rule_within a.table.now c.requires.0 (Ipv4.destination a.packet.now) _ (found-is a.table.now a.packet.now c.window4-destination.ensures
+    c.find_rule-found.ensures c.in-At.is)
 
 pub at_d4-answer-requires : goal.at_d4-answer-requires
 at_d4-answer-requires c =
-    let s = c in
-    let a = s.args in
+    let a = c.args in
     let l = c.rule_at-r.ensures in
-    let q = found-rule entry_limit a.table.now (Ipv4.destination a.packet.now) _ s.requires.0
-    (found-is c ∙ c.found-1.given.1) in
-    record { octets = l.long; sound = subst SoundRule (sym l.same) q; arrived = s.requires.1 }
+    let q = found-rule entry_limit a.table.now (Ipv4.destination a.packet.now) _ c.requires.0
+    (found-is a.table.now a.packet.now c.window4-destination.ensures c.find_rule-found.ensures c.in-At.is) in
+    record { octets = l.long; sound = subst SoundRule (sym l.same) q; arrived = c.requires.1 }
 
 pub returns-in-Nothing : goal.returns-in-Nothing
 unfolding settle
@@ -52,7 +50,7 @@ returns-in-Nothing c =
     let t : List ℕ = a.table.now in
     let p : List ℕ = a.packet.now in
     let room : ℕ = length a.out.now in
-    let f = found-is c ∙ c.enum_told-1.given.1 in
+    let f = found-is t p c.window4-destination.ensures c.find_rule-found.ensures c.in-Nothing.is in
     record {
       answered = answered_named _ (plain 4) _ _ _ (ap (λ (f : Found). settle room (at_found_rule t p f)) f ∙ ap (settle room) (at_no_rule t
           p)) c.no_match.ensures c.refused.ensures;
@@ -66,7 +64,7 @@ returns-in-At c =
     let t : List ℕ = a.table.now in
     let p : List ℕ = a.packet.now in
     let room : ℕ = length a.out.now in
-    let f = found-is c ∙ c.found-1.given.1 in
+    let f = found-is t p c.window4-destination.ensures c.find_rule-found.ensures c.in-At.is in
     record {
       answered = answered_as _ _ _ _ _ ((λ i. settle room (at_d4 (c.rule_at-r.ensures.same i) p)) ∙ ap
           (settle room) (sym (at_found-rule t p _)) ∙ ap (λ (f : Found). settle room (at_found_rule t p f)) (sym f))

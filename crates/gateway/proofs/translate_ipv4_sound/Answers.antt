@@ -4,6 +4,8 @@ use Rattle.answer.proofs.Settling.{answered_named, answered_as}
 use Rattle.rules.specs.declared.Header4.{Header4}
 use Rattle.rules.specs.Header4.{header4, header4_of, malformed4, bad_header4}
 use Rattle.rules.specs.Answer.{any, plain}
+use Rattle.rules.specs.Octets.{window}
+use mathlib.Core.Bool.{Bool}
 use lib.ListN.{length}
 use native.Mathlib.Omega.{arith}
 use Prim.Native.Nat.{ℕ}
@@ -11,27 +13,24 @@ use mathlib.Core.List.{List}
 use mathlib.Core.Path.{◌≡◌, refl, sym, ap, ◌∙◌}
 use Rattle.gateway.proofs.translate_ipv4_sound.Goals as goal
 
-viewed : (c : goal.After-is_malformed4) → c.header4_of-h.result ≡ header4 c.args.packet.now
-unfolding header4
-viewed c =
-    let p : List ℕ = c.args.packet.now in
-    c.header4_of-h.ensures ∙ ap (λ (f : List ℕ). header4_of f (length p)) c.window20.ensures ∙ header4_front p
-    (length p)
+-- the view is that of the packet, and so what is tested of it
+module _ (p : List ℕ) {front : List ℕ} {h : Header4} (read : front ≡ window p 0 20) (of : h ≡ header4_of front (length p)) where
+  viewed : h ≡ header4 p
+  unfolding header4
+  viewed = of ∙ ap (λ (f : List ℕ). header4_of f (length p)) read ∙ header4_front p (length p)
 
-tested : (c : goal.After-is_malformed4) → any (malformed4 (header4 c.args.packet.now))
-    ≡ c.is_malformed4.result
-tested c = ap (λ (h : Header4). any (malformed4 h)) (sym (viewed c)) ∙ sym c.is_malformed4.ensures
+  tested : {b v : Bool} → b ≡ any (malformed4 h) → b ≡ v → any (malformed4 (header4 p)) ≡ v
+  tested e is = ap (λ (h : Header4). any (malformed4 h)) (sym viewed) ∙ sym e ∙ is
 
-tested-3 : (c : goal.After-bad_header4) → any (bad_header4 (header4 c.args.packet.now)) ≡ c.bad_header4.result
-tested-3 c = ap (λ (h : Header4). any (bad_header4 h)) (sym (viewed c)) ∙ sym c.bad_header4.ensures
+  tested-3 : {b v : Bool} → b ≡ any (bad_header4 h) → b ≡ v → any (bad_header4 (header4 p)) ≡ v
+  tested-3 e is = ap (λ (h : Header4). any (bad_header4 h)) (sym viewed) ∙ sym e ∙ is
 
 pub returns-then-is_malformed4 : goal.returns-then-is_malformed4
 unfolding rule_found
 returns-then-is_malformed4 c =
-    let s = c in
-    let a = s.args in
-    let m = tested c ∙ c.if-is_malformed4.true in
-    let refused = malformed_4 a.packet.now a.table.now (length a.out.now) s.requires m in
+    let a = c.args in
+    let m = tested a.packet.now c.window20.ensures c.header4_of-h.ensures c.is_malformed4.ensures c.if-is_malformed4.true in
+    let refused = malformed_4 a.packet.now a.table.now (length a.out.now) c.requires m in
     record {
       answered = answered_named _ (plain 2) _ _ _ refused c.malformed.ensures c.refused.ensures;
       found = rw m;
@@ -41,11 +40,10 @@ returns-then-is_malformed4 c =
 pub returns-then-bad_header4 : goal.returns-then-bad_header4
 unfolding rule_found
 returns-then-bad_header4 c =
-    let s = c in
-    let a = s.args in
-    let m = tested c ∙ c.if-is_malformed4.false in
-    let b = tested-3 c ∙ c.if-bad_header4.true in
-    let refused = bad_4 a.packet.now a.table.now (length a.out.now) s.requires m b in
+    let a = c.args in
+    let m = tested a.packet.now c.window20.ensures c.header4_of-h.ensures c.is_malformed4.ensures c.if-is_malformed4.false in
+    let b = tested-3 a.packet.now c.window20.ensures c.header4_of-h.ensures c.bad_header4.ensures c.if-bad_header4.true in
+    let refused = bad_4 a.packet.now a.table.now (length a.out.now) c.requires m b in
     record {
       answered = answered_named _ (plain 3) _ _ _ refused c.bad_header4-then-bad_header4.ensures c.refused-then-bad_header4.ensures;
       found = rw (m, b);
@@ -54,9 +52,9 @@ returns-then-bad_header4 c =
 
 pub at_match4-requires : goal.at_match4-requires
 at_match4-requires c =
-    let s = c in (
-      s.requires,
-      well_formed4 s.args.packet.now _ (viewed c)
+    (
+      c.requires,
+      well_formed4 c.args.packet.now _ (viewed c.args.packet.now c.window20.ensures c.header4_of-h.ensures)
           (sym c.is_malformed4.ensures ∙ c.if-is_malformed4.false)
           (omega (arith, c)),
     )
@@ -64,13 +62,12 @@ at_match4-requires c =
 pub returns : goal.returns
 unfolding rule_found
 returns c =
-    let s = c in
-    let a = s.args in
-    let m = tested c ∙ c.if-is_malformed4.false in
-    let b = tested-3 c ∙ c.if-bad_header4.false in
+    let a = c.args in
+    let m = tested a.packet.now c.window20.ensures c.header4_of-h.ensures c.is_malformed4.ensures c.if-is_malformed4.false in
+    let b = tested-3 a.packet.now c.window20.ensures c.header4_of-h.ensures c.bad_header4.ensures c.if-bad_header4.false in
     let d = c.at_match4.ensures in
     record {
-      answered = answered_as _ _ _ _ _ (matched4 a.packet.now a.table.now (length a.out.now) s.requires m b) d.answered;
+      answered = answered_as _ _ _ _ _ (matched4 a.packet.now a.table.now (length a.out.now) c.requires m b) d.answered;
       found = rw (m, b) d.found;
       upperAt = d.upperAt;
     }

@@ -15,9 +15,8 @@ use Rattle.icmp.proofs.checksum.Goals as goal
 
 pub returns : goal.returns
 returns c =
-    let s = c in
-    let g = s.well_formed in
-    let a = s.args in
+    let g = c.well_formed in
+    let a = c.args in
     let head : List ℕ = a.header in
     let rest : List ℕ = a.quoted.now in
     let m : List ℕ = head ++ rest in
@@ -42,5 +41,5 @@ returns c =
     let q : sum + word_sum head ≡ sum_with a.from a.to 58 m = omega arith in
     c.complement.ensures
     ∙ ap (λ (t : ℕ). (65535 - t) % 65535) (ap (λ (t : ℕ). t % 65535) p ∙ e ∙ ap (λ (t : ℕ). t % 65535) q)
-    ∙ sym (checksum-is a.from a.to m lf lt (omega (arith, s.requires)) (array_octets 16 a.from _ g.0)
+    ∙ sym (checksum-is a.from a.to m lf lt (omega (arith, c.requires)) (array_octets 16 a.from _ g.0)
     (array_octets 16 a.to _ g.1.0) om)

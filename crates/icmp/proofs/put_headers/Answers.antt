@@ -6,5 +6,4 @@ use Rattle.icmp.proofs.put_headers.Goals as goal
 pub returns : goal.returns
 returns c =
     let r = c.put_ipv6.ensures in
-    let s = c in
-    next r _ 8 c.copy_to.ensures (omega (arith, s)) refl (omega arith)
+    next r _ 8 c.copy_to.ensures (omega (arith, c)) refl (omega arith)

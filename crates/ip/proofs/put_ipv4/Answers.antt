@@ -8,14 +8,10 @@ use Rattle.ip.proofs.put_ipv4.Goals as goal
 pub returns : goal.returns
 unfolding window
 returns c =
-    let third = c in
-    let second = third in
-    let front = second in
-    let summed = front.header_sum-sum in
-    let s = front in
-    let a = s.args in
-    let r₁ = first a.out.now 0 _ 12 front.copy_to.ensures refl in
-    let r₂ = next r₁ _ 4 second.copy_to-2.ensures (omega (arith, s)) refl (omega arith) in
-    let r₃ = next r₂ _ 4 third.copy_to-3.ensures (omega (arith, s)) refl (omega arith) in
+    let summed = c.header_sum-sum in
+    let a = c.args in
+    let r₁ = first a.out.now 0 _ 12 c.copy_to.ensures refl in
+    let r₂ = next r₁ _ 4 c.copy_to-2.ensures (omega (arith, c)) refl (omega arith) in
+    let r₃ = next r₂ _ 4 c.copy_to-3.ensures (omega (arith, c)) refl (omega arith) in
     run_as r₃
-    (ipv4_written a.tos a.total a.ttl summed.result a.source a.destination (omega (arith, s)) (omega (arith, s)) summed.ensures)
+    (ipv4_written a.tos a.total a.ttl summed.result a.source a.destination (omega (arith, c)) (omega (arith, c)) summed.ensures)

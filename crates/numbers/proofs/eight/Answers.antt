@@ -8,20 +8,13 @@ use Rattle.numbers.proofs.eight.Goals as goal
 pub returns : goal.returns
 unfolding number
 returns c =
-    let c₆ = c in
-    let c₅ = c₆ in
-    let c₄ = c₅ in
-    let c₃ = c₄ in
-    let c₂ = c₃ in
-    let c₁ = c₂ in
-    let c₀ = c₁ in
-    let b0 : ℕ = c₀.wide.result in
-    let b1 : ℕ = c₁.wide-2.result in
-    let b2 : ℕ = c₂.wide-3.result in
-    let b3 : ℕ = c₃.wide-4.result in
-    let b4 : ℕ = c₄.wide-5.result in
-    let b5 : ℕ = c₅.wide-6.result in
-    let b6 : ℕ = c₆.wide-7.result in
+    let b0 : ℕ = c.wide.result in
+    let b1 : ℕ = c.wide-2.result in
+    let b2 : ℕ = c.wide-3.result in
+    let b3 : ℕ = c.wide-4.result in
+    let b4 : ℕ = c.wide-5.result in
+    let b5 : ℕ = c.wide-6.result in
+    let b6 : ℕ = c.wide-7.result in
     let b7 : ℕ = c.wide-8.result in
     rw (
       join_first b0 56 (omega arith),
@@ -33,4 +26,4 @@ returns c =
       join (((((b0 * 256 + b1) * 256 + b2) * 256 + b3) * 256 + b4) * 256 + b5) b6 8 (omega arith) (omega arith),
       join_last ((((((b0 * 256 + b1) * 256 + b2) * 256 + b3) * 256 + b4) * 256 + b5) * 256 + b6) b7 (omega arith),
     )
-    record { value = rw (add-zero c₀.args.at) (omega arith); small = omega arith }
+    record { value = rw (add-zero c.args.at) (omega arith); small = omega arith }

@@ -8,12 +8,9 @@ use Rattle.numbers.proofs.four.Goals as goal
 pub returns : goal.returns
 unfolding number
 returns c =
-    let c₂ = c in
-    let c₁ = c₂ in
-    let c₀ = c₁ in
-    let b0 : ℕ = c₀.wide.result in
-    let b1 : ℕ = c₁.wide-2.result in
-    let b2 : ℕ = c₂.wide-3.result in
+    let b0 : ℕ = c.wide.result in
+    let b1 : ℕ = c.wide-2.result in
+    let b2 : ℕ = c.wide-3.result in
     let b3 : ℕ = c.wide-4.result in
     rw (
       join_first b0 24 (omega arith),
@@ -21,4 +18,4 @@ returns c =
       join (b0 * 256 + b1) b2 8 (omega arith) (omega arith),
       join_last ((b0 * 256 + b1) * 256 + b2) b3 (omega arith),
     )
-    record { value = rw (add-zero c₀.args.at) (omega arith); small = omega arith }
+    record { value = rw (add-zero c.args.at) (omega arith); small = omega arith }

@@ -8,11 +8,10 @@ use Rattle.numbers.proofs.two.Goals as goal
 pub returns : goal.returns
 unfolding number
 returns c =
-    let c₀ = c in
-    let b0 : ℕ = c₀.wide.result in
+    let b0 : ℕ = c.wide.result in
     let b1 : ℕ = c.wide-2.result in
     rw (
       join_first b0 8 (omega arith),
       join_last b0 b1 (omega arith),
     )
-    record { value = rw (add-zero c₀.args.at) (omega arith); small = omega arith }
+    record { value = rw (add-zero c.args.at) (omega arith); small = omega arith }

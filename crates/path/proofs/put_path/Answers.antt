@@ -11,13 +11,12 @@ use Rattle.path.proofs.put_path.Goals as goal
 pub returns : goal.returns
 unfolding head_along
 returns c =
-    let s = c in
-    let a = s.args in
+    let a = c.args in
     let ws = addresses_at a.holder.now a.from a.waypoints in
     let rest = tail_of a.tail a.sid a.end in
     let n = a.waypoints + a.tail in
     let t = c.first_of-first.ensures ∙
-    tail_first a.tail a.sid a.end ws s.requires.one s.requires.two in
+    tail_first a.tail a.sid a.end ws c.requires.one c.requires.two in
     let front = run_as c.put_front.ensures
     (λ i. path_front a.class a.upper a.hops a.source (t i) n a.size) in
     path_put a.class a.upper a.hops a.source (get_or (ws ++ rest) 0 []) a.waypoints a.tail a.size rest ws

@@ -5,17 +5,15 @@ use Rattle.path.proofs.put_tail.Goals as goal
 
 pub returns-then-tail-eq1 : goal.returns-then-tail-eq1
 returns-then-tail-eq1 c =
-    let s = c in
-    tail_one s.args.tail s.args.sid s.args.end _ _ c.if-tail-eq1.true (omega (arith, s))
+    tail_one c.args.tail c.args.sid c.args.end _ _ c.if-tail-eq1.true (omega (arith, c))
     c.copy_to.ensures
 
 pub returns : goal.returns
 returns c =
-    let s = c in
-    let two : s.args.tail ≡ 2 = omega (
+    let two : c.args.tail ≡ 2 = omega (
       arith,
-      s,
+      c,
       c.if-tail-eq1.false,
     ) in
-    tail_two s.args.tail s.args.sid s.args.end _ _ _ two (omega (arith, s)) (omega (arith, s)) (omega (arith, s))
+    tail_two c.args.tail c.args.sid c.args.end _ _ _ two (omega (arith, c)) (omega (arith, c)) (omega (arith, c))
     c.copy_to-2.ensures c.copy_to-3.ensures

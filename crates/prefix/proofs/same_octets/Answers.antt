@@ -26,30 +26,27 @@ loop-i-init c = (omega arith, refl)
 
 pub returns-then-eight_octets : goal.returns-then-eight_octets
 returns-then-eight_octets c =
-    let k = c in
     let i : ℕ = c.loop-i.i in
     let x = c.eight_octets.ensures.value in
     let y = c.eight_octets-in-loop-i.ensures.value in
-    sym (some_differ _ _ (λ i. (k.type_inv.a i).fits) (λ i. (k.type_inv.b i).fits) i 8 _ (omega arith)
-    (λ q. c.if-eight_octets.true (x ∙ number-lying _ _ (λ i. (k.type_inv.a i).fits) (λ i. (k.type_inv.b i).fits) i 8 q ∙ sym y)))
+    sym (some_differ _ _ (λ i. (c.type_inv.a i).fits) (λ i. (c.type_inv.b i).fits) i 8 _ (omega arith)
+    (λ q. c.if-eight_octets.true (x ∙ number-lying _ _ (λ i. (c.type_inv.a i).fits) (λ i. (c.type_inv.b i).fits) i 8 q ∙ sym y)))
 
 pub loop-i-preserved : goal.loop-i-preserved
 loop-i-preserved c =
-    let k = c in
     let l = c.loop-i in
     let x = c.eight_octets.ensures.value in
     let y = c.eight_octets-in-loop-i.ensures.value in
-    let e = lying-number _ _ (λ i. (k.type_inv.a i).fits) (λ i. (k.type_inv.b i).fits) l.i 8 (sym x ∙ c.if-eight_octets.false ∙ y) in
+    let e = lying-number _ _ (λ i. (c.type_inv.a i).fits) (λ i. (c.type_inv.b i).fits) l.i 8 (sym x ∙ c.if-eight_octets.false ∙ y) in
     (omega arith, same_more _ _ l.i 8 l.invariant.1 e)
 
 pub returns-then-four_octets : goal.returns-then-four_octets
 returns-then-four_octets c =
-    let k = c in
     let i : ℕ = c.loop-i.i in
     let x = c.four_octets.ensures.value in
     let y = c.four_octets-then-i-n.ensures.value in
-    sym (some_differ _ _ (λ i. (k.type_inv.a i).fits) (λ i. (k.type_inv.b i).fits) i 4 _ (omega arith)
-    (λ q. c.if-four_octets.true (x ∙ number-lying _ _ (λ i. (k.type_inv.a i).fits) (λ i. (k.type_inv.b i).fits) i 4 q ∙ sym y)))
+    sym (some_differ _ _ (λ i. (c.type_inv.a i).fits) (λ i. (c.type_inv.b i).fits) i 4 _ (omega arith)
+    (λ q. c.if-four_octets.true (x ∙ number-lying _ _ (λ i. (c.type_inv.a i).fits) (λ i. (c.type_inv.b i).fits) i 4 q ∙ sym y)))
 
 pub returns-then-two_octets : goal.returns-then-two_octets
 returns-then-two_octets c =

@@ -1,11 +1,10 @@
 use Rattle.std.proofs.Common.{rules}
 use mathlib.Core.Path.{◌≡◌, sym, ◌∙◌}
-use mathlib.Core.Logic.{⊎_elim}
-use Prim.Native.Nat.{◌-◌}
 use native.Mathlib.Omega.{arith}
 use Rattle.rules.specs.Table.{entries}
 use Rattle.rules.specs.Match.{match_entry}
 use Rattle.matching.proofs.Longest.{longest-none, longest_hit, longest_miss, found_below}
+use Rattle.reach.proofs.find.Goals.{then-entry_matched, else-entry_matched}
 use Rattle.reach.proofs.find.Goals as goal
 
 pub loop-i-init : goal.loop-i-init
@@ -16,13 +15,13 @@ longer_entry-found-requires c = (omega arith, rw c.loop-i.invariant.1 (found_bel
 
 pub loop-i-preserved : goal.loop-i-preserved
 loop-i-preserved c =
-    let k = c.loop-i in
-    let tested = sym c.entry_matched.ensures in (
+    let k = c.loop-i in (
       omega arith,
-      ⊎_elim
-          (λ w. w.2 ∙ w.1.ensures ∙ rw k.invariant.1 (sym (longest_hit _ _ k.i (tested ∙ w.0.taken))))
-          (λ w. w.1 ∙ k.invariant.1 ∙ sym (longest_miss _ _ k.i (tested ∙ w.0.left)))
-          c.if-entry_matched.branch,
+      elim c.if-entry_matched.branch [
+        | then-entry_matched w ↦ w.found-is ∙ w.longer_entry-found.ensures ∙ rw k.invariant.1
+            (sym (longest_hit _ _ k.i (sym c.entry_matched.ensures ∙ w.if-entry_matched.true)))
+        | else-entry_matched w ↦ w.found-is ∙ k.invariant.1 ∙ sym (longest_miss _ _ k.i (sym c.entry_matched.ensures ∙ w.if-entry_matched.false))
+      ],
     )
 
 pub returns : goal.returns

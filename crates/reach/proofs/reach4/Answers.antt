@@ -1,11 +1,10 @@
 use Rattle.std.proofs.Common.{rules}
 use mathlib.Core.Path.{◌≡◌, sym, ◌∙◌}
-use mathlib.Core.Logic.{⊎_elim}
-use Prim.Native.Nat.{◌-◌}
 use native.Mathlib.Omega.{arith}
 use Rattle.rules.specs.Table.{entries}
 use Rattle.matching.proofs.Longest.{longest-none, longest_hit, longest_miss, found_below}
-use Rattle.reach.specs.Reach.{entry_reached4, reach4}
+use Rattle.reach.specs.Reach.{reach4}
+use Rattle.reach.proofs.reach4.Goals.{then-entry_reached4, else-entry_reached4}
 use Rattle.reach.proofs.reach4.Goals as goal
 
 pub loop-i-init : goal.loop-i-init
@@ -16,13 +15,13 @@ longer_entry-found-requires c = (omega arith, rw c.loop-i.invariant.1 (found_bel
 
 pub loop-i-preserved : goal.loop-i-preserved
 loop-i-preserved c =
-    let k = c.loop-i in
-    let tested = sym c.entry_reached4.ensures in (
+    let k = c.loop-i in (
       omega arith,
-      ⊎_elim
-          (λ w. w.2 ∙ w.1.ensures ∙ rw k.invariant.1 (sym (longest_hit _ _ k.i (tested ∙ w.0.taken))))
-          (λ w. w.1 ∙ k.invariant.1 ∙ sym (longest_miss _ _ k.i (tested ∙ w.0.left)))
-          c.if-entry_reached4.branch,
+      elim c.if-entry_reached4.branch [
+        | then-entry_reached4 w ↦ w.found-is ∙ w.longer_entry-found.ensures ∙ rw k.invariant.1
+            (sym (longest_hit _ _ k.i (sym c.entry_reached4.ensures ∙ w.if-entry_reached4.true)))
+        | else-entry_reached4 w ↦ w.found-is ∙ k.invariant.1 ∙ sym (longest_miss _ _ k.i (sym c.entry_reached4.ensures ∙ w.if-entry_reached4.false))
+      ],
     )
 
 pub returns : goal.returns

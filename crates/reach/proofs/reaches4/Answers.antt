@@ -13,17 +13,15 @@ use Rattle.reach.proofs.reaches4.Goals as goal
 pub returns : goal.returns
 unfolding reaches4
 returns c =
-    let c6 = c in
-    let c12 = c6 in
-    let a = c12.args in
+    let a = c.args in
     let r : List ℕ = a.r.now in
     let n = start_behind (octet r 4) in
-    let p = c12.wide-at.ensures.0 in
-    let to = c12.window4-to.ensures ∙ ap (λ (k : ℕ). window a.prefix k 4) p in
-    let args = c6.own_args.ensures in
+    let p = c.wide-at.ensures.0 in
+    let to = c.window4-to.ensures ∙ ap (λ (k : ℕ). window a.prefix k 4) p in
+    let args = c.own_args.ensures in
     let own =
-    c6.sid_of-own.ensures ∙ (λ i. with_args (address_behind (window r 16 16) (octet r 4) (to i)) n (args i)) in
+    c.sid_of-own.ensures ∙ (λ i. with_args (address_behind (window r 16 16) (octet r 4) (to i)) n (args i)) in
     let left = c.saturating_sub.ensures ∙ (λ i. a.bits - 8 * p i) in
-    let both = c.smaller-both.ensures ∙ (λ i. smaller (c6.wide.ensures.0 i) (left i)) in
+    let both = c.smaller-both.ensures ∙ (λ i. smaller (c.wide.ensures.0 i) (left i)) in
     λ i. (c.lies_under.ensures ∙ (λ j. under 16 (own j) a.prefix a.bits)) i
-    && (c.under4.ensures ∙ (λ j. under 4 (to j) (c6.window4-ours.ensures j) (both j))) i
+    && (c.under4.ensures ∙ (λ j. under 4 (to j) (c.window4-ours.ensures j) (both j))) i

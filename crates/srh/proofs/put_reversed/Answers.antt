@@ -8,12 +8,10 @@ loop-k-init c = let a = c.args in reversing_start a.out.now a.at a.s.now a.from 
 pub loop-k-preserved : goal.loop-k-preserved
 loop-k-preserved c =
     let copied = c.copy_to in
-    let read = c in
-    let l = read.loop-k in
-    let s = read in
-    let a = s.args in
-    reversing_next a.out.now a.at a.s.now a.from a.n _ _ _ l.k l.invariant (omega arith) (omega (arith, s))
-    read.sixteen-address.ensures.0 copied.ensures copied.auto.out
+    let l = c.loop-k in
+    let a = c.args in
+    reversing_next a.out.now a.at a.s.now a.from a.n _ _ _ l.k l.invariant (omega arith) (omega (arith, c))
+    c.sixteen-address.ensures.0 copied.ensures copied.auto.out
 
 pub returns : goal.returns
 returns c =

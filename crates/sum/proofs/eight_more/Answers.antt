@@ -5,9 +5,8 @@ use Rattle.sum.proofs.eight_more.Goals as goal
 
 pub returns : goal.returns
 returns c =
-    let a = c in
-    let s = a.args.s.now in
+    let s = c.args.s.now in
     let w = c.four in
     let x = c.four-2 in
-    let k = before_four s _ _ a.requires.1 w.result w.ensures _ refl (omega arith) in
+    let k = before_four s _ _ c.requires.1 w.result w.ensures _ refl (omega arith) in
     before_as (before_four s _ _ k x.result x.ensures _ refl (omega arith)) (omega arith) refl

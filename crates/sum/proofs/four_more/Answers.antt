@@ -5,6 +5,5 @@ use Rattle.sum.proofs.four_more.Goals as goal
 
 pub returns : goal.returns
 returns c =
-    let a = c in
     let w = c.four in
-    before_as (before_four a.args.s.now _ _ a.requires.1 w.result w.ensures _ refl (omega arith)) (omega arith) refl
+    before_as (before_four c.args.s.now _ _ c.requires.1 w.result w.ensures _ refl (omega arith)) (omega arith) refl

@@ -7,8 +7,7 @@ use Rattle.sum.proofs.one_more.Goals as goal
 
 pub returns : goal.returns
 returns c =
-    let a = c in
-    let s = a.args.s.now in
+    let s = c.args.s.now in
     let w = c.word in
-    let k = before_as {j = length s - 1} a.requires.1 (omega arith) refl in
+    let k = before_as {j = length s - 1} c.requires.1 (omega arith) refl in
     before_one s (length s - 1) _ k w.result (omega arith) w.ensures.1 (omega arith)

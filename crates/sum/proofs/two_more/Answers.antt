@@ -5,6 +5,5 @@ use Rattle.sum.proofs.two_more.Goals as goal
 
 pub returns : goal.returns
 returns c =
-    let a = c in
     let w = c.word in
-    before_as (before_two a.args.s.now _ _ a.requires.1 w.result w.ensures.0 w.ensures.1 (omega arith)) (omega arith) refl
+    before_as (before_two c.args.s.now _ _ c.requires.1 w.result w.ensures.0 w.ensures.1 (omega arith)) (omega arith) refl

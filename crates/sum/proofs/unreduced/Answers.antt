@@ -4,7 +4,6 @@ use Rattle.sum.proofs.unreduced.Goals as goal
 
 pub returns : goal.returns
 returns c =
-    let a = c in
     let e = c.one_more.ensures in
     let l = e.small in
-    (before_all a.args.s.now c.one_more.result e, omega arith)
+    (before_all c.args.s.now c.one_more.result e, omega arith)

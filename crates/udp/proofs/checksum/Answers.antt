@@ -15,15 +15,14 @@ use Rattle.udp.proofs.checksum.Goals as goal
 
 pub returns : goal.returns
 returns c =
-    let k = c in
-    let g = k.well_formed in
-    let a = k.args in
+    let g = c.well_formed in
+    let a = c.args in
     let rest : List ℕ = a.rest.now in
     let u : List ℕ = a.head ++ rest in
     let lf = good_length (e_int w8) 16 a.from _ g.0 in
     let lt = good_length (e_int w8) 16 a.to _ g.1.0 in
     let lh = good_length (e_int w8) 24 a.head _ g.1.1.0 in
-    let or : Octets rest = λ i. (k.type_inv.rest i).fits in
+    let or : Octets rest = λ i. (c.type_inv.rest i).fits in
     let ou = octets-append a.head rest (array_octets 24 a.head _ g.1.1.0) or in
     let lu : length u ≡ length a.head + length rest = length-append a.head rest in
     let wu : word_sum u ≡ word_sum a.head + word_sum rest = word_sum-append a.head rest (omega arith) in

@@ -14,13 +14,12 @@ use Rattle.udp.proofs.checksum_of.Goals as goal
 
 pub returns : goal.returns
 returns c =
-    let k = c in
-    let g = k.well_formed in
-    let a = k.args in
+    let g = c.well_formed in
+    let a = c.args in
     let u : List ℕ = a.datagram.now in
     let lf = good_length (e_int w8) 16 a.from _ g.0 in
     let lt = good_length (e_int w8) 16 a.to _ g.1.0 in
-    let ou : Octets u = λ i. (k.type_inv.datagram i).fits in
+    let ou : Octets u = λ i. (c.type_inv.datagram i).fits in
     let x = c.unreduced_address in
     let y = c.unreduced_address-2 in
     let z = c.unreduced in
@@ -30,5 +29,5 @@ returns c =
     let p : x.result + y.result + length u + 17 + z.result ≡ x.result + y.result + z.result + n = omega arith in
     let q : word_sum a.from + word_sum a.to + word_sum u + n ≡ total_sum a.from a.to u = omega arith in
     c.complement.ensures
-    ∙ total-checksum a.from a.to u _ lf lt k.requires (array_octets 16 a.from _ g.0) (array_octets 16 a.to _ g.1.0)
+    ∙ total-checksum a.from a.to u _ lf lt c.requires (array_octets 16 a.from _ g.0) (array_octets 16 a.to _ g.1.0)
     ou (ap (λ (n : ℕ). n % 65535) p ∙ m ∙ ap (λ (n : ℕ). n % 65535) q)

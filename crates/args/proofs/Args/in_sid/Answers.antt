@@ -11,9 +11,8 @@ use Rattle.args.proofs.Args.in_sid.Goals as goal
 pub returns : goal.returns
 unfolding window
 returns c =
-    let s = c in
     let l : length c.octets-octets.result ≡ 5 = search rules in
-    let n : length s.args.sid ≡ 16 = search rules in
+    let n : length c.args.sid ≡ 16 = search rules in
     rw c.octet_of-at.ensures
-    (simp towards_suc (args_stored s.args.sid c.octets-octets.result s.args.start (value s.args.self) c.octets-octets.ensures l
+    (simp towards_suc (args_stored c.args.sid c.octets-octets.result c.args.start (value c.args.self) c.octets-octets.ensures l
     (omega arith)))

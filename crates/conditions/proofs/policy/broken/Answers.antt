@@ -10,9 +10,7 @@ use Rattle.conditions.proofs.policy.broken.Goals as goal
 pub returns : goal.returns
 unfolding policy_broken
 returns c =
-    let c₂ = c in
-    let c₃ = c₂ in
-    let policy : List ℕ = c₃.args.policy.now in
+    let policy : List ℕ = c.args.policy.now in
     behind 1 (itself (sids_within policy)) c.unless.ensures
-    (behind 2 c₂.start_within.ensures c₂.unless-from_2.ensures
-    (behind 3 (itself (reserved_clear (Policy.reserved policy))) c₃.unless-from_3.ensures refl))
+    (behind 2 c.start_within.ensures c.unless-from_2.ensures
+    (behind 3 (itself (reserved_clear (Policy.reserved policy))) c.unless-from_3.ensures refl))

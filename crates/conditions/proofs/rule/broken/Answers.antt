@@ -10,25 +10,15 @@ use Rattle.conditions.proofs.rule.broken.Goals as goal
 pub returns : goal.returns
 unfolding rule_broken
 returns c =
-    let c₂ = c in
-    let c₃ = c₂ in
-    let c₄ = c₃ in
-    let c₅ = c₄ in
-    let c₆ = c₅ in
-    let c₇ = c₆ in
-    let c₈ = c₇ in
-    let c₉ = c₈ in
-    let c₁₀ = c₉ in
-    let c₁₁ = c₁₀ in
-    let r : List ℕ = c₁₁.args.r.now in
+    let r : List ℕ = c.args.r.now in
     behind 1 (itself (prefix_length_within 32 (Rule.prefix_length r))) c.unless.ensures
-    (behind 2 c₂.prefix_clear.ensures c₂.unless-from_2.ensures
-    (behind 3 (itself (hop_limit_within (Rule.hop_limit r))) c₃.unless-from_3.ensures
-    (behind 4 c₄.direction_known.ensures c₄.unless-from_4.ensures
-    (behind 5 c₅.session_known.ensures c₅.unless-from_5.ensures
-    (behind 6 (itself (p_within (Rule.p r))) c₆.unless-from_6.ensures
-    (behind 7 (itself (q_within (Rule.q r))) c₇.unless-from_7.ensures
-    (behind 8 c₈.sid_prefix_clear.ensures c₈.unless-from_8.ensures
-    (behind 9 c₉.source_prefix_clear.ensures c₉.unless-from_9.ensures
-    (behind 10 (itself (waypoints_within r)) c₁₀.unless-from_10.ensures
-    (behind 11 (itself (reserved_clear (Rule.reserved r))) c₁₁.unless-from_11.ensures refl))))))))))
+    (behind 2 c.prefix_clear.ensures c.unless-from_2.ensures
+    (behind 3 (itself (hop_limit_within (Rule.hop_limit r))) c.unless-from_3.ensures
+    (behind 4 c.direction_known.ensures c.unless-from_4.ensures
+    (behind 5 c.session_known.ensures c.unless-from_5.ensures
+    (behind 6 (itself (p_within (Rule.p r))) c.unless-from_6.ensures
+    (behind 7 (itself (q_within (Rule.q r))) c.unless-from_7.ensures
+    (behind 8 c.sid_prefix_clear.ensures c.unless-from_8.ensures
+    (behind 9 c.source_prefix_clear.ensures c.unless-from_9.ensures
+    (behind 10 (itself (waypoints_within r)) c.unless-from_10.ensures
+    (behind 11 (itself (reserved_clear (Rule.reserved r))) c.unless-from_11.ensures refl))))))))))

@@ -8,16 +8,12 @@ use Rattle.conditions.proofs.rule.surely_sound.Goals as goal
 
 pub returns : goal.returns
 returns c = λ q.
-    let c₃ = c in
-    let w = c₃ in
-    let c₂ = w in
-    let c₁ = c₂ in
-    let r : List ℕ = c₁.args.r.now in
-    let sid : w.words_clear.result ≡ sid_prefix_clear r =
-    clear-words r 16 (8 * octet r 4) (rw (← w.wide-p.ensures.0) w.words_clear.ensures)
-    w.eight.ensures.value w.eight-2.ensures.value in
+    let r : List ℕ = c.args.r.now in
+    let sid : c.words_clear.result ≡ sid_prefix_clear r =
+    clear-words r 16 (8 * octet r 4) (rw (← c.wide-p.ensures.0) c.words_clear.ensures)
+    c.eight.ensures.value c.eight-2.ensures.value in
     let source : c.words_clear-2.result ≡ source_prefix_clear r =
     clear-words r 32 (8 * octet r 5) (rw (← c.wide-q.ensures.0) c.words_clear-2.ensures)
     c.eight-3.ensures.value c.eight-4.ensures.value in
-    sound-rule r (c₁.octets_sound.ensures (c₁.if-not-octets_sound.false))
-    (sym c₂.prefix_clear.ensures ∙ c₂.if-not-prefix_clear.false) (sym sid ∙ c₃.if-not-words_clear.false) (sym source ∙ q)
+    sound-rule r (c.octets_sound.ensures (c.if-not-octets_sound.false))
+    (sym c.prefix_clear.ensures ∙ c.if-not-prefix_clear.false) (sym sid ∙ c.if-not-words_clear.false) (sym source ∙ q)

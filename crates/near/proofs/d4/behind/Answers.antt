@@ -9,10 +9,9 @@ use Rattle.near.proofs.d4.behind.Goals as goal
 
 pub returns : goal.returns
 returns c =
-    let s = c in
-    let a = s.args in
+    let a = c.args in
     let r : List ℕ = a.r.now in
     let j : a.at + a.n - a.at ≡ a.n = omega arith in
     let prefix = c.copy_to.ensures ∙ ap (λ (k : ℕ). splice (replicate 16 0) 0
     (take k (drop a.at r))) j in
-    behind_built r a.at a.n a.address _ _ (omega (arith, s)) (omega (arith, s)) (omega (arith, s)) prefix c.copy_to-2.ensures
+    behind_built r a.at a.n a.address _ _ (omega (arith, c)) (omega (arith, c)) (omega (arith, c)) prefix c.copy_to-2.ensures
