@@ -113,7 +113,9 @@ class Names:
         self.everywhere.update(re.findall(WORD, text))
         # names that stand by themselves: no module, field or step
         code = re.sub(r"(?m)(^| )-- .*", "", text)
-        self.bare[path] = {m.group() for m in re.finditer(WORD, code) if "." not in (code[m.start() - 1 : m.start()], code[m.end() : m.end() + 1])}
+        self.bare[path] = {
+            m.group() for m in re.finditer(WORD, code) if "." not in (code[m.start() - 1 : m.start()], code[m.end() : m.end() + 1])
+        }
         proof = os.path.basename(path) in ("Proof.antt", "Answers.antt", "Invariants.antt")
         record = None
         for line in text.split("\n"):

@@ -72,7 +72,7 @@ done
 alike office behind.pcap
 grep -qx 'packets 39, bursts 2; frames left out 1' stdout || fail "not 39 packets in 2 bursts, and one left out"
 
-### ICMPv6 messages: of the yard's captures, of those of icmp.py, which have every one that is due, and those that are not, and of drawn ones
+### ICMPv6 messages: the yard's captures, those of icmp.py, which have every one that is due, and those that are not, and drawn ones
 
 # What the forwarder sends and counts is what the tool does, and both write the messages into a capture of their own.
 alike_told() { # TABLE CAPTURE
