@@ -117,7 +117,7 @@ alike_told office behind.pcap
 ### what its README shows
 
 mkdir shown
-cp office gate mast crane numbered.pcap "$top"/examples/yard/{mast,crane}.yaml shown
+cp office gate mast crane numbered.pcap shown
 ln -s ../forwarder shown/forwarder
 ln -s "$tool" shown/kawsarpa
 sed -n '/^## A run$/,$s/^    //p' "$top/examples/forwarder/README.md" >shown.expected
