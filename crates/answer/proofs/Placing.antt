@@ -26,7 +26,8 @@ module _ (before place : ℕ) (p o o' : List ℕ) (a : Answer) (r : Placed befor
       ))
 
   -- with the head written in front
-  pub placed_sent : a.number ≡ 0 → (o'' : List ℕ) → Run o' 0 before head o'' → Answered (settle (length o) (Sent (sent_by head place p))) o a
+  pub placed_sent : a.number ≡ 0 → (o'' : List ℕ) → Run o' 0 before head o''
+      → Answered (settle (length o) (Sent (sent_by head place p))) o a
       o''
   unfolding overlay
   placed_sent n o'' w =

@@ -40,7 +40,12 @@ answered-packed o b b' a w r h₁ h₂ h₃ h₄ e = record {
 pub answered-refused : (o : Outcome) (ρ : Refusal) (b : List ℕ) (a : Answer) → o ≡ Refused ρ → (a ≡ answer_of (Refused ρ)) ×
     (a.size < 65700) → Answered o b a b
 unfolding overlay
-answered-refused o ρ b a q (e, l) = record { tells = e ∙ ap answer_of (sym q); holds = sym (ap (λ (o : Outcome). overlay o b) q); small = l }
+answered-refused o ρ b a q (e, l) = record {
+  tells = e
+      ∙ ap answer_of (sym q);
+  holds = sym (ap (λ (o : Outcome). overlay o b) q);
+  small = l;
+}
 
 -- the same of a refusal that was made under its name
 pub answered_named : (o : Outcome) (ρ r : Refusal) (b : List ℕ) (a : Answer) → o ≡ Refused ρ → r ≡ ρ → (a ≡ answer_of (Refused r)) ×

@@ -8,7 +8,7 @@ use lib.ListN.{length}
 use Rattle.rules.specs.Octets.{octet}
 use Rattle.rules.specs.Assigned.{downlink}
 use Rattle.rules.specs.Args.{Args, first_octet, args_octets, args_at}
-use Rattle.rules.specs.Gtpu.{flow_octet, pdu_type, qfi as containerQfi, reflective as containerReflective}
+use Rattle.rules.specs.Gtpu.{flow_octet, pdu_type, qfi as container_qfi, reflective as container_reflective}
 use Rattle.args.proofs.Laws.{args_back}
 
 abbrev pub flow5 : List ℕ → Args
@@ -32,11 +32,12 @@ pub from_args_not_22 : (teid : List ℕ) → (args_at (0x16 ∷ teid) 0).qfi ≡
 unfolding args_at
 from_args_not_22 teid e = omega arith
 
-pub from_container : (u : List ℕ) → pdu_type u ≡ downlink → octet u 22 ≡ 0x45 → (containerQfi u ≡ 5) × (containerReflective u ≡ 1)
+pub from_container : (u : List ℕ) → pdu_type u ≡ downlink → octet u 22 ≡ 0x45 → (container_qfi u ≡ 5) × (container_reflective u ≡ 1)
 from_container u d e = (rw e, rw (d, e))
 
 -- from the one to the other
-pub container_to_args : (u : List ℕ) → pdu_type u ≡ downlink → octet u 22 ≡ 0x45 → first_octet (containerQfi u) (containerReflective u) ≡ 0x16
+pub container_to_args : (u : List ℕ) → pdu_type u ≡ downlink → octet u 22 ≡ 0x45 → first_octet (container_qfi u) (container_reflective u)
+    ≡ 0x16
 container_to_args u d e = rw (d, e)
 
 pub args_to_container : (teid : List ℕ) → flow_octet downlink (args_at (0x16 ∷ teid) 0).qfi (args_at (0x16 ∷ teid) 0).reflective ≡ 0x45

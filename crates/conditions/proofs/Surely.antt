@@ -12,7 +12,8 @@ use Rattle.rules.specs.Prefix.{clear}
 use Rattle.rules.specs.Assigned.{end, end_m_gtp6e, end_m_gtp4e}
 use Rattle.rules.specs.Entry as Entry
 use Rattle.rules.specs.Policy as Policy
-use Rattle.rules.specs.Sound.{where_used, uses_session, uses_policy, uses_start, uses_places, behaviour_known, direction_known, session_known}
+use Rattle.rules.specs.Sound.{where_used, uses_session, uses_policy, uses_start, uses_places, behaviour_known, direction_known}
+use Rattle.rules.specs.Sound.{session_known}
 use Rattle.rules.specs.Sound.{start_within, prefix_before_args, p_within, q_within, prefix_before_address, reserved_clear}
 use Rattle.rules.specs.Sound.{every, entry_conditions, entry_marks, entry_sound, rule_prefix_clear, sid_prefix_clear, source_prefix_clear}
 use Rattle.rules.specs.Sound.{rule_conditions, rule_sound}
@@ -71,7 +72,8 @@ module _ (n : ℕ) (e : List ℕ) (f : Front e) where
         and_both (every (entry_conditions n e)) _
         (holds-every (entry_conditions n e)
         (k also f.bits also f.clear also f.hopLimit also used (uses_session e) _ d also used (uses_session e) _ s
-        also used (uses_policy e) _ named also rw a refl also rw a refl also rw b refl also rw b refl also rw b refl also rw u refl also tt))
+        also used (uses_policy e) _ named also rw a refl also rw a refl also rw b refl also rw b refl also rw b refl also rw u refl also
+        tt))
         (holds-every (entry_marks e) (used (uses_policy e) _ mark also tt))
 
     -- the behaviours of D and Di are neighbours

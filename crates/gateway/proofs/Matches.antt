@@ -45,9 +45,11 @@ header4_front p n = refl
 
 -- D and Di are what is left of the behaviours that a sound table may name
 module _ (policies : ℕ) (e : List ℕ) (h : entry_sound policies e ≡ true)
-    (h₁ : eqb (Entry.behaviour e) end ≡ false) (h₂ : eqb (Entry.behaviour e) end_m_gtp6e ≡ false) (h₃ : eqb (Entry.behaviour e) end_m_gtp4e ≡
+    (h₁ : eqb (Entry.behaviour e) end ≡ false) (h₂ : eqb (Entry.behaviour e) end_m_gtp6e
+    ≡ false) (h₃ : eqb (Entry.behaviour e) end_m_gtp4e ≡
     false) where
-  pub gtp6d_cases : (P : Type 0) → (Entry.behaviour e ≡ end_m_gtp6d → P) → (Entry.behaviour e ≡ end_m_gtp6d_di → tail_at (Entry.behaviour e) ≡ 2
+  pub gtp6d_cases : (P : Type 0) → (Entry.behaviour e ≡ end_m_gtp6d → P)
+      → (Entry.behaviour e ≡ end_m_gtp6d_di → tail_at (Entry.behaviour e) ≡ 2
       → P) → P
   unfolding entry_sound
   gtp6d_cases P d di = go (eqb (Entry.behaviour e) end_m_gtp6d) refl
@@ -88,17 +90,20 @@ module _ (p t : List ℕ) (room : ℕ) where
     pub malformed6 : any (malformed (header p)) ≡ true → translate6 p t room ≡ Refused (plain 2)
     malformed6 h = settled6 p t room ∙ refuse_settles room (front_rows6 t (header p)) _ (plain 2) (unfold front_rows6 verdict in rw (s, h))
 
-    pub matched6 : any (malformed (header p)) ≡ false → settle room (at_found_entry t p (match_entry t (Ipv6.destination p))) ≡ translate6 p t
+    pub matched6 : any (malformed (header p)) ≡ false → settle room (at_found_entry t p (match_entry t (Ipv6.destination p)))
+        ≡ translate6 p t
         room
     matched6 h = sym (settled6 p t room ∙ pass_settles room (front_rows6 t (header p)) _ (unfold front_rows6 verdict in rw (s, h)))
 
     pub malformed_4 : any (malformed4 (header4 p)) ≡ true → translate4 p t room ≡ Refused (plain 2)
-    malformed_4 h = settled4 p t room ∙ refuse_settles room (front_rows4 t (header4 p)) _ (plain 2) (unfold front_rows4 verdict in rw (s, h))
+    malformed_4 h = settled4 p t room ∙ refuse_settles room (front_rows4 t (header4 p)) _ (plain 2)
+        (unfold front_rows4 verdict in rw (s, h))
 
     pub bad_4 : any (malformed4 (header4 p)) ≡ false → any (bad_header4 (header4 p)) ≡ true → translate4 p t room ≡ Refused (plain 3)
     bad_4 h b = settled4 p t room ∙ refuse_settles room (front_rows4 t (header4 p)) _ (plain 3) (unfold front_rows4 verdict in rw (s, h, b))
 
-    pub matched4 : any (malformed4 (header4 p)) ≡ false → any (bad_header4 (header4 p)) ≡ false → settle room (at_found_rule t p (match_rule t
+    pub matched4 : any (malformed4 (header4 p)) ≡ false → any (bad_header4 (header4 p)) ≡ false
+        → settle room (at_found_rule t p (match_rule t
         (Ipv4.destination p))) ≡ translate4 p t room
     matched4 h b = sym (settled4 p t room ∙ pass_settles room (front_rows4 t (header4 p)) _ (unfold front_rows4 verdict in rw (s, h, b)))
 

@@ -53,7 +53,8 @@ quoted_part p n h = go (ltb (length p) 1232) refl
 
 -- both headers, then the quoted octets
 pub whole : (e : List ℕ) (r : Refusal) (p : List ℕ) → let s = Entry.source e in let d = Ipv6.source p in
-    sent_by (ipv6 0 (8 + length (quoted p)) icmpv6_protocol (Entry.hop_limit e) s d [] ++ icmp r (checksum_of s d (icmp r 0 (quoted p))) []) 0
+    sent_by (ipv6 0 (8 + length (quoted p)) icmpv6_protocol (Entry.hop_limit e) s d [] ++ icmp r (checksum_of s d (icmp r 0 (quoted p)))
+    []) 0
     (quoted p) ≡ icmp_packet e r p
 unfolding icmp_packet
 whole e r p =

@@ -1,5 +1,6 @@
 -- The signed reading of a difference mod 65,536, as 16 bits in two's complement hold it.
-use Rattle.std.proofs.Common.{◌≡◌, ℕ, zero, suc, ◌+◌, ◌-◌, ◌%◌, ◌<◌, ◌≤◌, true, false, pos, negsuc, ◌-ℤ◌, sym, refl, ap, ⊎_elim, true≢false, arith, w16, to_z, of_z, ltb-false, ltb-true, le-ltb, lt-ltb}
+use Rattle.std.proofs.Common.{◌≡◌, ℕ, zero, suc, ◌+◌, ◌-◌, ◌%◌, ◌<◌, ◌≤◌, true, false, pos, negsuc, ◌-ℤ◌, sym, refl, ap, ⊎_elim, true≢false}
+use Rattle.std.proofs.Common.{arith, w16, to_z, of_z, ltb-false, ltb-true, le-ltb, lt-ltb}
 use lib.Signed.{lt_z}
 use Rattle.loss.specs.Loss.{signed_of, New, Repeated, Late, arrival_of}
 use Rattle.loss.proofs.Choosing.{below_or}

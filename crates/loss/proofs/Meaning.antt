@@ -1,5 +1,6 @@
 -- What the counts of a report mean: numbers in order lose nothing, a jump over k numbers loses k, a new number at once again is one repeat.
-use Rattle.std.proofs.Common.{◌≡◌, ℕ, zero, suc, ◌+◌, ◌%◌, ◌^◌, ◌<◌, ◌≤◌, true, ◌⊎◌, List, [], ◌∷◌, sym, refl, ap, ◌∙◌, subst, inl, inr, ⊎_elim, mod-eq_of_lt, eq-or-lt_of_le, arith, eq-eqb}
+use Rattle.std.proofs.Common.{◌≡◌, ℕ, zero, suc, ◌+◌, ◌%◌, ◌^◌, ◌<◌, ◌≤◌, true, ◌⊎◌, List, [], ◌∷◌, sym, refl, ap, ◌∙◌, subst, inl, inr}
+use Rattle.std.proofs.Common.{⊎_elim, mod-eq_of_lt, eq-or-lt_of_le, arith, eq-eqb}
 use borrow.Author.Tests.{eqb-false}
 use Rattle.loss.specs.Loss.{New, counted, started}
 use Rattle.loss.specs.Loss.{row_at, no_row, of_teid, offered, offer}

@@ -1,6 +1,8 @@
 -- One offer: it stores at the place that serves and nowhere else; a refusal changes nothing; rows past the 256th are neither read nor
 -- changed.
-use Rattle.std.proofs.Common.{◌≡◌, ℕ, zero, suc, ◌<◌, ◌≤◌, Bool, true, false, cond, not, ◌&&◌, eqb, ltb, ◌⊎◌, List, [], ◌∷◌, ◌++◌, length, set, sym, refl, ap, ◌∙◌, subst, inl, inr, ⊎_elim, true≢false, arith, length-append, length-set, get_or-set_other, get_or-set_same, ltb-false, eqb-true}
+use Rattle.std.proofs.Common.{◌≡◌, ℕ, zero, suc, ◌<◌, ◌≤◌, Bool, true, false, cond, not, ◌&&◌, eqb, ltb, ◌⊎◌, List, [], ◌∷◌, ◌++◌, length}
+use Rattle.std.proofs.Common.{set, sym, refl, ap, ◌∙◌, subst, inl, inr, ⊎_elim, true≢false, arith, length-append, length-set}
+use Rattle.std.proofs.Common.{get_or-set_other, get_or-set_same, ltb-false, eqb-true}
 use lib.ListN.{get_or-append}
 use lib.Seq.{set-get_or}
 use Rattle.rules.specs.Answer.{packed_fields}
@@ -30,7 +32,8 @@ module _ (rows : List Row) (teid : ℕ) where
       at_i : (meets : Row → Bool) (k : ℕ) → lowest meets rows n ≡ At k → At k ≡ At i → (i < n) × (meets (row_at rows i) ≡ true)
       at_i meets k p q = let a = lowest_at meets rows n i (p ∙ q) in (a.0, a.1)
 
-      go : (t f : Found) → lowest (of_teid teid) rows n ≡ t → lowest free rows n ≡ f → or_else t f ≡ At i → (i < n) × Fit teid (row_at rows i)
+      go : (t f : Found) → lowest (of_teid teid) rows n ≡ t → lowest free rows n ≡ f → or_else t f ≡ At i → (i < n)
+          × Fit teid (row_at rows i)
       go (At k) f p q e = let a = at_i (of_teid teid) k p e in (a.0, inl a.1)
       go Nothing (At k) p q e = let a = at_i free k q e in (a.0, inr a.1)
       go Nothing Nothing p q e = absurd (nothing_at i e)
@@ -189,7 +192,8 @@ module _ (rows more : List Row) where
         rw (used_front, lowest_front (of_teid teid) n u.0, lowest_front free n u.0) refl
 
     -- what follows 256 rows is neither read nor changed
-    pub past-unused : (teid number : ℕ) → offer (rows ++ more) teid number ≡ ((offer rows teid number).0, (offer rows teid number).1 ++ more)
+    pub past-unused : (teid number : ℕ) → offer (rows ++ more) teid number
+        ≡ ((offer rows teid number).0, (offer rows teid number).1 ++ more)
     past-unused teid number = go (serving rows teid) refl
       where
         Both : ℕ × List Row → Type 0

@@ -1,5 +1,6 @@
 -- One pass over the rows for each condition: what it finds is the row that serves, and what the offer then is.
-use Rattle.std.proofs.Common.{◌≡◌, ℕ, ◌+◌, ◌<◌, ◌≤◌, Bool, true, false, cond, not, ◌&&◌, eqb, ltb, List, length, set, sym, refl, ap, subst, ⊎_elim, true≢false, eq-or-lt_of_le, arith, ltb-false, ltb-true, eq-eqb, ne_eqb}
+use Rattle.std.proofs.Common.{◌≡◌, ℕ, ◌+◌, ◌<◌, ◌≤◌, Bool, true, false, cond, not, ◌&&◌, eqb, ltb, List, length, set, sym, refl, ap, subst}
+use Rattle.std.proofs.Common.{⊎_elim, true≢false, eq-or-lt_of_le, arith, ltb-false, ltb-true, eq-eqb, ne_eqb}
 use lib.Seq.{set-get_or}
 use Rattle.rules.specs.declared.Found.TheVariants.{At, Nothing}
 use Rattle.loss.specs.Loss.{row_at, no_row, free, of_teid, used_of, serving}
@@ -66,7 +67,8 @@ module _ (rows : List Row) (teid number : ℕ) where
 
   pub offer-counted : (i : ℕ) → i < n → of_teid teid (row_at rows i) ≡ true → NoneBefore (of_teid teid) rows i
       → ((row_at rows i).seen ≡ 4294967295 → ⊥) → (r : Row)
-      → r ≡ counted (row_at rows i) number (arrival_of (distance number (row_at rows i).highest)) → (0, set rows i r) ≡ offer rows teid number
+      → r ≡ counted (row_at rows i) number (arrival_of (distance number (row_at rows i).highest)) → (0, set rows i r)
+      ≡ offer rows teid number
   unfolding offer offer_at offered
   offer-counted i h e none f r k =
       rw (own_serves i h e none, own-used teid (row_at rows i) e, ne_eqb (row_at rows i).seen 4294967295 f)

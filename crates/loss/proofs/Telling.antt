@@ -1,5 +1,6 @@
 -- The second saying of an offer (specs/Told.antt) is the definition: both ways, for every row whose number has 16 bits.
-use Rattle.std.proofs.Common.{◌≡◌, ℕ, ◌+◌, ◌-◌, ◌%◌, ◌<◌, ◌≤◌, Bool, true, false, cond, not, ◌&&◌, eqb, ltb, List, length, set, sym, refl, ap, ◌∙◌, subst, ⊎_elim, true≢false, eq-or-lt_of_le, arith, ltb-false, ltb-true, eq-eqb, ne_eqb, eqb-true}
+use Rattle.std.proofs.Common.{◌≡◌, ℕ, ◌+◌, ◌-◌, ◌%◌, ◌<◌, ◌≤◌, Bool, true, false, cond, not, ◌&&◌, eqb, ltb, List, length, set, sym, refl}
+use Rattle.std.proofs.Common.{ap, ◌∙◌, subst, ⊎_elim, true≢false, eq-or-lt_of_le, arith, ltb-false, ltb-true, eq-eqb, ne_eqb, eqb-true}
 use borrow.Author.Tests.{eqb-false}
 use Rattle.rules.specs.declared.Found.{Found}
 use Rattle.rules.specs.declared.Found.TheVariants.{At, Nothing}
@@ -141,7 +142,8 @@ module _ (rows : List Row) (teid number : ℕ) (small : number < 65536) (fits : 
       go : (t f : Found) → lowest (of_teid teid) rows n ≡ t → lowest free rows n ≡ f
           → Answers rows teid number (offer rows teid number).0 (offer rows teid number).1
       go (At i) f p q =
-          ⊎_elim (λ e. given _ _ (Answers.is_full i low e)) (λ e. given _ _ (counted_at (fewer e))) (same_or (row_at rows i).seen 4294967295)
+          ⊎_elim (λ e. given _ _ (Answers.is_full i low e)) (λ e. given _ _ (counted_at (fewer e)))
+          (same_or (row_at rows i).seen 4294967295)
         where
           low : LowestOwn rows teid i
           low =

@@ -1,5 +1,6 @@
 -- Lost sequence numbers (order 13): what an offer answers, and what it leaves in the rows.
-use Rattle.std.specs.Prelude.{ℕ, zero, suc, ◌+◌, ◌-◌, ◌%◌, ◌^◌, Bool, cond, not, ◌&&◌, List, length, ℤ, pos, negsuc, ◌==◌, nat_lt, slice_index_or, slice_set}
+use Rattle.std.specs.Prelude.{ℕ, zero, suc, ◌+◌, ◌-◌, ◌%◌, ◌^◌, Bool, cond, not, ◌&&◌, List, length, ℤ, pos, negsuc, ◌==◌, nat_lt}
+use Rattle.std.specs.Prelude.{slice_index_or, slice_set}
 use Rattle.rules.specs.declared.Found.{Found}
 use Rattle.rules.specs.declared.Found.TheVariants.{At, Nothing}
 use Rattle.loss.specs.declared.Row.{Row}
@@ -16,20 +17,20 @@ distance number highest = signed_of ((number + 65536 - highest) % 65536)
 -- WHAT ARRIVES
 
 pub data Arrival : Type 0 where
-  New : (passedOver : ℕ) → Arrival
+  New : (passed_over : ℕ) → Arrival
   Repeated : Arrival
   Late : Arrival
 
 -- above 0 the packet is new, and distance less one numbers were passed over; 0 is a repeat; below 0 is late
 unfoldable pub arrival_of : (distance : ℤ) → Arrival
 arrival_of (pos zero) = Repeated
-arrival_of (pos (suc passedOver)) = New passedOver
+arrival_of (pos (suc passed_over)) = New passed_over
 arrival_of (negsuc _) = Late
 
 -- Each adds 1 to its count and to seen; a new number becomes highest, and what it passed over is lost. Counts have 32 bits, lost 64: on
 -- rows that no history gives, they wrap.
 unfoldable pub counted : Row → (number : ℕ) → Arrival → Row
-counted r number (New passedOver) = record {
+counted r number (New passed_over) = record {
   teid = r.teid;
   first = r.first;
   highest = number;
@@ -37,7 +38,7 @@ counted r number (New passedOver) = record {
   new = (r.new + 1) % 2 ^ 32;
   repeated = r.repeated;
   late = r.late;
-  lost = (r.lost + passedOver) % 2 ^ 64;
+  lost = (r.lost + passed_over) % 2 ^ 64;
 }
 counted r number Repeated = record {
   teid = r.teid;

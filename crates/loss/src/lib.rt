@@ -119,7 +119,7 @@ fn is_of(row: Row, teid: u32) -> bool
 
 // Offers one number: finds the row that serves, and stores the one updated record.
 pub fn offer(rows: &mut [Row], teid: u32, number: u16) -> u64
-    ensures { (result, rows.exit.now) ≡ offer rows.entry.now teid number }
+    ensures { (result, rows.new) ≡ offer rows.old teid number }
 {
     let n = used_of(rows.len());
     let mut own = 0;

@@ -124,72 +124,73 @@ module _ (r p : List ℕ) (h : Header4) (arrived : WellFormed4 p h) (g : Datagra
 
   -- what the rows say
   module _ (v : Verdict) (field : ℕ) (hl : field ≡ cond (eqb w 0) size (24 + 16 * w + size))
-      (judged : v ≡ verdict (gtp4_rows h g ++ (message_rows [] g ++ type_rows (Rule.direction r) (Rule.session r) g size first field))) where
-    front_here : gtp4_rows h g ≡ gtp4_rows (header4 p) (datagram (datagram_in4 p))
-    front_here = λ i. gtp4_rows (arrived.view i) (read.view i)
+      (judged : v ≡ verdict (gtp4_rows h g ++ (message_rows [] g ++ type_rows (Rule.direction r) (Rule.session r) g size first field)))
+    where
+      front_here : gtp4_rows h g ≡ gtp4_rows (header4 p) (datagram (datagram_in4 p))
+      front_here = λ i. gtp4_rows (arrived.view i) (read.view i)
 
-    -- of an Echo Request, before row 17
-    abbrev echo_front : List Row
-    echo_front = gtp4_rows (header4 p) (datagram (datagram_in4 p)) ++ message_rows [] (datagram (datagram_in4 p))
+      -- of an Echo Request, before row 17
+      abbrev echo_front : List Row
+      echo_front = gtp4_rows (header4 p) (datagram (datagram_in4 p)) ++ message_rows [] (datagram (datagram_in4 p))
 
-    echo4_front : is_echo (datagram (datagram_in4 p)) ≡ true → v ≡ verdict echo_front
-    echo4_front t = echo-verdict p 20 g place size first read (gtp4_rows h g) [] (Rule.direction r) (Rule.session r) field v judged t _
-        front_here
+      echo4_front : is_echo (datagram (datagram_in4 p)) ≡ true → v ≡ verdict echo_front
+      echo4_front t = echo-verdict p 20 g place size first read (gtp4_rows h g) [] (Rule.direction r) (Rule.session r) field v judged t _
+          front_here
 
-    echo4_rows : (echo_plan4 r p).rows ≡ echo_front ++ echo_rows (datagram (datagram_in4 p))
-    unfolding echo_plan4 rows_echo4
-    echo4_rows = sym (append_assoc (gtp4_rows (header4 p) (datagram (datagram_in4 p))) _ _)
+      echo4_rows : (echo_plan4 r p).rows ≡ echo_front ++ echo_rows (datagram (datagram_in4 p))
+      unfolding echo_plan4 rows_echo4
+      echo4_rows = sym (append_assoc (gtp4_rows (header4 p) (datagram (datagram_in4 p))) _ _)
 
-    -- of any other message
-    g_pdu4_judged : is_echo (datagram (datagram_in4 p)) ≡ false → Judged (g_pdu_plan4 r p) p place field v
-    unfolding g_pdu_plan4 rows_d4
-    g_pdu4_judged t =
-        let z : size ≡ length (carried4 p).inner = read.holds ∙ sym (length-drop place p) ∙ ap length inner-here in
-        let f : field ≡ past_waypoints_payload (Rule.waypoints r) (carried4 p).inner =
-        hl ∙ (λ i. cond (eqb (hw i) 0) (z i) (24 + 16 * hw i + z i)) ∙ payload_past r (Rule.waypoint_count r) (carried4 p).inner in
-        let bounds = gpdu_bounds p 20 g place size first read (gtp4_rows h g) [] (Rule.direction r) (Rule.session r) field v judged t in
-        record {
-          rows = gpdu-verdict p 20 g place size first read (gtp4_rows h g) [] (Rule.direction r) (Rule.session r) field v judged t
-              (carried4 p).inner inner-here _ front_here _ f;
-          at = g_pdu4_place;
-          within = λ q. (bounds q).0;
-          fits = λ q. omega (arith, (bounds q).1);
-        }
+      -- of any other message
+      g_pdu4_judged : is_echo (datagram (datagram_in4 p)) ≡ false → Judged (g_pdu_plan4 r p) p place field v
+      unfolding g_pdu_plan4 rows_d4
+      g_pdu4_judged t =
+          let z : size ≡ length (carried4 p).inner = read.holds ∙ sym (length-drop place p) ∙ ap length inner-here in
+          let f : field ≡ past_waypoints_payload (Rule.waypoints r) (carried4 p).inner =
+          hl ∙ (λ i. cond (eqb (hw i) 0) (z i) (24 + 16 * hw i + z i)) ∙ payload_past r (Rule.waypoint_count r) (carried4 p).inner in
+          let bounds = gpdu_bounds p 20 g place size first read (gtp4_rows h g) [] (Rule.direction r) (Rule.session r) field v judged t in
+          record {
+            rows = gpdu-verdict p 20 g place size first read (gtp4_rows h g) [] (Rule.direction r) (Rule.session r) field v judged t
+                (carried4 p).inner inner-here _ front_here _ f;
+            at = g_pdu4_place;
+            within = λ q. (bounds q).0;
+            fits = λ q. omega (arith, (bounds q).1);
+          }
 
-    -- a refusal, whatever the message is
-    pub d4_refused : (ρ : Refusal) (b : List ℕ) (a : Answer) → v ≡ Refuse ρ → (a ≡ answer_of (Refused ρ)) × (a.size < 65700)
-        → Answered (settle (length b) (at_d4 r p)) b a b
-    d4_refused ρ b a q k = go (is_echo (datagram (datagram_in4 p))) refl
-      where
-        go : (echo : Bool) → is_echo (datagram (datagram_in4 p)) ≡ echo → Answered (settle (length b) (at_d4 r p)) b a b
-        go true t =
-            answered-refused _ ρ b a
-            (ap (settle (length b)) (sym (echo4_carried_out r p t))
-            ∙ refuse_settles (length b) (echo_plan4 r p).rows _ ρ
-            (ap verdict echo4_rows ∙ sym (refused-first echo_front (echo_rows (datagram (datagram_in4 p))) v ρ (echo4_front t) q))) k
-        go false t = plan_refused (g_pdu_plan4 r p) p _ (g_pdu4_carried_out r p t) (g_pdu4_judged t) ρ b a q k
+      -- a refusal, whatever the message is
+      pub d4_refused : (ρ : Refusal) (b : List ℕ) (a : Answer) → v ≡ Refuse ρ → (a ≡ answer_of (Refused ρ)) × (a.size < 65700)
+          → Answered (settle (length b) (at_d4 r p)) b a b
+      d4_refused ρ b a q k = go (is_echo (datagram (datagram_in4 p))) refl
+        where
+          go : (echo : Bool) → is_echo (datagram (datagram_in4 p)) ≡ echo → Answered (settle (length b) (at_d4 r p)) b a b
+          go true t =
+              answered-refused _ ρ b a
+              (ap (settle (length b)) (sym (echo4_carried_out r p t))
+              ∙ refuse_settles (length b) (echo_plan4 r p).rows _ ρ
+              (ap verdict echo4_rows ∙ sym (refused-first echo_front (echo_rows (datagram (datagram_in4 p))) v ρ (echo4_front t) q))) k
+          go false t = plan_refused (g_pdu_plan4 r p) p _ (g_pdu4_carried_out r p t) (g_pdu4_judged t) ρ b a q k
 
-    -- from the view: what is sent where the message is no Echo Request
-    type-here : (echo : Bool) → is_echo g ≡ echo → is_echo (datagram (datagram_in4 p)) ≡ echo
-    type-here echo t = ap (λ (g : Datagram). is_echo g) (sym read.view) ∙ t
+      -- from the view: what is sent where the message is no Echo Request
+      type-here : (echo : Bool) → is_echo g ≡ echo → is_echo (datagram (datagram_in4 p)) ≡ echo
+      type-here echo t = ap (λ (g : Datagram). is_echo g) (sym read.view) ∙ t
 
-    pub other4_judged : is_echo g ≡ false → Judged (g_pdu_plan4 r p) p place field v
-    other4_judged t = g_pdu4_judged (type-here false t)
+      pub other4_judged : is_echo g ≡ false → Judged (g_pdu_plan4 r p) p place field v
+      other4_judged t = g_pdu4_judged (type-here false t)
 
-    pub other4_carried_out : is_echo g ≡ false → carry_out (g_pdu_plan4 r p) p ≡ at_d4 r p
-    other4_carried_out t = g_pdu4_carried_out r p (type-here false t)
+      pub other4_carried_out : is_echo g ≡ false → carry_out (g_pdu_plan4 r p) p ≡ at_d4 r p
+      other4_carried_out t = g_pdu4_carried_out r p (type-here false t)
 
-    -- an Echo Request, from row 17 on
-    pub echo4-answered : is_echo g ≡ true → v ≡ Pass → (tos : ℕ) → tos ≡ octet p 1 → {b : List ℕ} {a : Answer} {b' : List ℕ}
-        → Answered (settle (length b) (unless (echo_rows (datagram (drop 20 p))) (Sent (reply_to4 p 20 tos (Rule.hop_limit r))))) b a b'
-        → Answered (settle (length b) (at_d4 r p)) b a b'
-    unfolding echo_plan4 echo_reply4
-    echo4-answered t q tos ht {b} k =
-        let is = type-here true t in
-        plan_replied (echo_plan4 r p) p _ echo_front (echo_rows (datagram (datagram_in4 p))) (echo_reply4 r p) (echo4_carried_out r p is)
-        echo4_rows (sym (echo4_front is) ∙ q) (all_head (echo_reply4 r p) p)
-        (answered_as _ _ _ _ _
-        (λ i. settle (length b) (unless (echo_rows (datagram (drop 20 p))) (Sent (reply_to4 p 20 (ht i) (Rule.hop_limit r))))) k)
+      -- an Echo Request, from row 17 on
+      pub echo4-answered : is_echo g ≡ true → v ≡ Pass → (tos : ℕ) → tos ≡ octet p 1 → {b : List ℕ} {a : Answer} {b' : List ℕ}
+          → Answered (settle (length b) (unless (echo_rows (datagram (drop 20 p))) (Sent (reply_to4 p 20 tos (Rule.hop_limit r))))) b a b'
+          → Answered (settle (length b) (at_d4 r p)) b a b'
+      unfolding echo_plan4 echo_reply4
+      echo4-answered t q tos ht {b} k =
+          let is = type-here true t in
+          plan_replied (echo_plan4 r p) p _ echo_front (echo_rows (datagram (datagram_in4 p))) (echo_reply4 r p) (echo4_carried_out r p is)
+          echo4_rows (sym (echo4_front is) ∙ q) (all_head (echo_reply4 r p) p)
+          (answered_as _ _ _ _ _
+          (λ i. settle (length b) (unless (echo_rows (datagram (drop 20 p))) (Sent (reply_to4 p 20 (ht i) (Rule.hop_limit r))))) k)
 
   -- what is written before the inner packet
   module _ (x : Args) (class : ℕ) (from to source sid : List ℕ)

@@ -36,8 +36,8 @@ use Rattle.pair.proofs.Fitting.{between_fits6, between_fits4, di-policy, sid_oct
 
 -- what is said where it fails, and where it holds
 asked : (P : ℕ → Type 0) (b : Bool) (number behind : ℕ) → (b ≡ false → P number) → (b ≡ true → P behind) → P (unless b number behind)
-asked P true number behind fails goesOn = goesOn refl
-asked P false number behind fails goesOn = fails refl
+asked P true number behind fails goes_on = goes_on refl
+asked P false number behind fails goes_on = fails refl
 
 found : (P : ℕ → Type 0) (between : ℕ → ℕ) (f : Found) → (f ≡ Nothing → P 5) → ((j : ℕ) → f ≡ At j
     → P (told entry_record j (between j))) → P (at_reached between f)
@@ -130,7 +130,8 @@ module _ (near far : List ℕ) (i : ℕ) (on : Octets near) (of : Octets far) wh
       asked (Says6 near far i) (sound near) 1 _ (λ h. near_unsound6 refl h)
       (λ h₁. asked (Says6 near far i) (sound far) 2 _ (λ h. far_unsound6 refl h₁ h)
       (λ h₂. asked (Says6 near far i) (ltb i (entries near)) 3 _ (λ h. no_record6 refl h₁ h₂ (ltb-false _ _ h))
-      (λ h₃. asked (Says6 near far i) (eqb (Entry.behaviour e) end_m_gtp6d_di) 4 _ (λ h. not_di6 refl h₁ h₂ (ltb-true _ _ h₃) (eqb-false _ _ h))
+      (λ h₃. asked (Says6 near far i) (eqb (Entry.behaviour e) end_m_gtp6d_di) 4 _
+      (λ h. not_di6 refl h₁ h₂ (ltb-true _ _ h₃) (eqb-false _ _ h))
       (λ h₄. let a : Asked6 near far i = record { near_sound = h₁; far_sound = h₂; exists = ltb-true _ _ h₃; enters = eqb-true _ _ h₄ } in
       found (Says6 near far i) (λ j. between6 e policy (entry_at far j))
       (reach6 far (Entry.direction e) (Policy.last_sid policy) (Policy.start policy))

@@ -60,7 +60,8 @@ module _ (p : List ℕ) (at : ℕ) (g : Datagram) (place size first : ℕ) (r : 
 
       pub gpdu-verdict : (inner : List ℕ) → drop place p ≡ inner → (front' : List Row) → front ≡ front' → (field' : ℕ) → field ≡ field'
           → let u = datagram (drop at p) in
-          v ≡ verdict (front' ++ (message_rows sum u ++ (g_pdu_rows direction u ++ inner_rows session (length inner) (octet inner 0) field')))
+          v ≡ verdict (front' ++ (message_rows sum u ++ (g_pdu_rows direction u ++ inner_rows session (length inner) (octet inner 0)
+          field')))
       gpdu-verdict inner e front' ef field' ff =
           let n : size ≡ length inner = r.holds ∙ sym (length-drop place p) ∙ ap length e in
           let f : first ≡ octet inner 0 =

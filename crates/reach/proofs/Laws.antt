@@ -30,7 +30,8 @@ bit_above false qfi reflective l k = refl
 
 pub through_container : (direction : ℕ) (prefix : List ℕ) (start flow : ℕ) (teid : List ℕ) (held : Args) → held ≡ args_at prefix start
     → flow ≡ flow_octet direction held.qfi held.reflective → teid ≡ held.teid
-    → record { qfi = flow % 64; reflective = cond (eqb direction downlink) (flow / 64 % 2) 0; teid = teid } ≡ own_args direction prefix start
+    → record { qfi = flow % 64; reflective = cond (eqb direction downlink) (flow / 64 % 2) 0; teid = teid }
+    ≡ own_args direction prefix start
 unfolding args_at
 through_container direction prefix start flow teid held h f t =
     let same = t ∙ ap (λ (x : Args). x.teid) h in

@@ -78,7 +78,8 @@ module _ (direction : ℕ) (sid : List ℕ) (start : ℕ) (x : Args) (hs : lengt
       pick : (b : Bool) → eqb direction downlink ≡ b
           → (octet prefix (start / 8) / 4 % 64 * 4 + cond b (octet prefix (start / 8) / 2 % 2) 0 * 2) / 2 ^ s
           ≡ octet prefix (start / 8 + 0) / 2 ^ s
-      pick true e = rw here (in_downlink_lem (octet prefix (start / 8)) (x.qfi * 4 + x.reflective * 2) s (op (start / 8)) (omega arith) first)
+      pick true e = rw here (in_downlink_lem (octet prefix (start / 8)) (x.qfi * 4 + x.reflective * 2) s (op (start / 8)) (omega arith)
+          first)
       pick false e =
           let z : x.reflective ≡ 0 = w.not_downlink (eqb-false direction downlink e) in
           rw here (in_uplink_lem (octet prefix (start / 8)) (x.qfi * 4 + x.reflective * 2) s (op (start / 8)) (omega arith) first)

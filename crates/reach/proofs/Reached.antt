@@ -135,7 +135,8 @@ module _ (t r : List ℕ) (o : Octets t) (s : sound t ≡ true) (or : Octets r) 
   unfolding reach4
   reach_none4 e d x u w = none_match t (rule_sid r d x) s (entry_reached4 t r) (up d x u w) e
 
-  pub matches_reach4 : (j : ℕ) → ((d : List ℕ) (x : Args) → Under r d → Writable (Rule.direction r) x → match_entry t (rule_sid r d x) ≡ At j)
+  pub matches_reach4 : (j : ℕ) → ((d : List ℕ) (x : Args) → Under r d → Writable (Rule.direction r) x → match_entry t (rule_sid r d x)
+      ≡ At j)
       → reach4 t r ≡ At j
   matches_reach4 j m = pick (reach4 t r) refl
     where

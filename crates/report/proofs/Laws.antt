@@ -67,9 +67,11 @@ none_due_read n p h source kind to u e hh hs hk ht hu he =
     ∙ (λ i. not (leb 6 n && leb n 8) || (eqb (octet (hs i) 0) 0xff || (v i || (eqb (ht i) 0xff || x i))))
 
 -- an error message or a Redirect
-pub error_read : (h : Header) (kind : ℕ) → (has_type h && (ltb kind 128 || eqb kind 137)) ≡ any (given (has_type h) (is_error_or_redirect kind))
+pub error_read : (h : Header) (kind : ℕ) → (has_type h && (ltb kind 128 || eqb kind 137))
+    ≡ any (given (has_type h) (is_error_or_redirect kind))
 error_read h kind =
-    ap (λ (b : Bool). has_type h && (ltb kind 128 || b)) (sym (any_last (eqb kind 137))) ∙ any-given (has_type h) (is_error_or_redirect kind)
+    ap (λ (b : Bool). has_type h && (ltb kind 128 || b)) (sym (any_last (eqb kind 137)))
+    ∙ any-given (has_type h) (is_error_or_redirect kind)
 
 -- WHAT IS REPORTED
 

@@ -81,28 +81,28 @@ module _ (p : List ℕ) where
 -- BOTH CALLS
 
 -- what a refusal of the list is (docs/RULES.md, Answers): its number is from 1 to 18, its ICMP fields are those of the number
-pub record Proper (refusalOf : ℕ → Refusal) (r : Refusal) : Type 0 where
+pub record Proper (refusal_of : ℕ → Refusal) (r : Refusal) : Type 0 where
   pub least : 1 ≤ r.number
   pub most : r.number ≤ 18
-  pub fields : r ≡ refusalOf r.number
+  pub fields : r ≡ refusal_of r.number
 
-abbrev pub EachProper : (refusalOf : ℕ → Refusal) → List Row → Type 0
-EachProper refusalOf [] = Unit {0}
-EachProper refusalOf (r ∷ rs) = Proper refusalOf r.refusal × EachProper refusalOf rs
+abbrev pub EachProper : (refusal_of : ℕ → Refusal) → List Row → Type 0
+EachProper refusal_of [] = Unit {0}
+EachProper refusal_of (r ∷ rs) = Proper refusal_of r.refusal × EachProper refusal_of rs
 
 -- rows in their places from place k on, each proper
-pub record Tabled (refusalOf : ℕ → Refusal) (k : ℕ) (rs : List Row) : Type 0 where
+pub record Tabled (refusal_of : ℕ → Refusal) (k : ℕ) (rs : List Row) : Type 0 where
   pub order : in_place k rs ≡ true
-  pub each : EachProper refusalOf rs
+  pub each : EachProper refusal_of rs
 
-pub verdict_proper : (refusalOf : ℕ → Refusal) (rs : List Row) (ρ : Refusal)
-    → EachProper refusalOf rs → verdict rs ≡ Refuse ρ → Proper refusalOf ρ
+pub verdict_proper : (refusal_of : ℕ → Refusal) (rs : List Row) (ρ : Refusal)
+    → EachProper refusal_of rs → verdict rs ≡ Refuse ρ → Proper refusal_of ρ
 unfolding verdict
-verdict_proper refusalOf [] ρ a h = let z : ◌≡◌ {A = ℕ} 0 1 = cc in absurd (omega arith)
-verdict_proper refusalOf (r ∷ rs) ρ a h = go (any r.tests) h (verdict_proper refusalOf rs ρ a.1)
+verdict_proper refusal_of [] ρ a h = let z : ◌≡◌ {A = ℕ} 0 1 = cc in absurd (omega arith)
+verdict_proper refusal_of (r ∷ rs) ρ a h = go (any r.tests) h (verdict_proper refusal_of rs ρ a.1)
   where
-    go : (b : Bool) → cond b (Refuse r.refusal) (verdict rs) ≡ Refuse ρ → (verdict rs ≡ Refuse ρ → Proper refusalOf ρ)
-        → Proper refusalOf ρ
+    go : (b : Bool) → cond b (Refuse r.refusal) (verdict rs) ≡ Refuse ρ → (verdict rs ≡ Refuse ρ → Proper refusal_of ρ)
+        → Proper refusal_of ρ
     go true h ih = let q : r.refusal ≡ ρ = cc in rw q at a.0
     go false h ih = ih h
 
@@ -118,11 +118,11 @@ entry_cases P t e p w d i s f = go (eqb b end) (eqb b end_m_gtp6d) (eqb b end_m_
     y : List ℕ
     y = policy_at t (Entry.policy e)
 
-    go : (isEnd isD isDi isE6 : Bool) → P (cond isEnd (decide_waypoint p)
-        (cond isD (decide_d e y p) (cond isDi (decide_di e y p) (cond isE6 (decide_e6 e p) (decide_e4 e p)))))
-    go true isD isDi isE6 = w
-    go false true isDi isE6 = d
-    go false false true isE6 = i
+    go : (is_end is_d is_di is_e6 : Bool) → P (cond is_end (decide_waypoint p)
+        (cond is_d (decide_d e y p) (cond is_di (decide_di e y p) (cond is_e6 (decide_e6 e p) (decide_e4 e p)))))
+    go true is_d is_di is_e6 = w
+    go false true is_di is_e6 = d
+    go false false true is_e6 = i
     go false false false true = s
     go false false false false = f
 
@@ -139,8 +139,8 @@ by_type_lem P g echo other a b = go (is_echo g)
 abbrev numbered : ℕ → Bool
 numbered n = leb 1 n && leb n 18
 
-proper : {refusalOf : ℕ → Refusal} {r : Refusal} → numbered r.number ≡ true → r ≡ refusalOf r.number → Proper refusalOf r
-proper {refusalOf} {r} h e = record {
+proper : {refusal_of : ℕ → Refusal} {r : Refusal} → numbered r.number ≡ true → r ≡ refusal_of r.number → Proper refusal_of r
+proper {refusal_of} {r} h e = record {
   least = leb-true _ _ (and_left (leb 1 r.number) (leb r.number 18) h);
   most = leb-true _ _ (and_right (leb 1 r.number) (leb r.number 18) h);
   fields = e;
@@ -151,21 +151,21 @@ all_numbered [] = true
 all_numbered (r ∷ rs) = numbered r.refusal.number && all_numbered rs
 
 -- the refusals that rows should have, by their numbers
-abbrev as_numbered : (refusalOf : ℕ → Refusal) → List Row → List Refusal
-as_numbered refusalOf [] = []
-as_numbered refusalOf (r ∷ rs) = refusalOf r.refusal.number ∷ as_numbered refusalOf rs
+abbrev as_numbered : (refusal_of : ℕ → Refusal) → List Row → List Refusal
+as_numbered refusal_of [] = []
+as_numbered refusal_of (r ∷ rs) = refusal_of r.refusal.number ∷ as_numbered refusal_of rs
 
-each_proper : (refusalOf : ℕ → Refusal) (rs : List Row) → all_numbered rs ≡ true → refusals rs ≡ as_numbered refusalOf rs
-    → EachProper refusalOf rs
-each_proper refusalOf [] h e = tt
-each_proper refusalOf (r ∷ rs) h e =
-    let q : r.refusal ≡ refusalOf r.refusal.number = cc in
+each_proper : (refusal_of : ℕ → Refusal) (rs : List Row) → all_numbered rs ≡ true → refusals rs ≡ as_numbered refusal_of rs
+    → EachProper refusal_of rs
+each_proper refusal_of [] h e = tt
+each_proper refusal_of (r ∷ rs) h e =
+    let q : r.refusal ≡ refusal_of r.refusal.number = cc in
     let m = numbered r.refusal.number in
-    (proper (and_left m (all_numbered rs) h) q, each_proper refusalOf rs (and_right m (all_numbered rs) h) cc)
+    (proper (and_left m (all_numbered rs) h) q, each_proper refusal_of rs (and_right m (all_numbered rs) h) cc)
 
-tabled : {refusalOf : ℕ → Refusal} {k : ℕ} {rs : List Row} → in_place k rs ≡ true → all_numbered rs ≡ true
-    → refusals rs ≡ as_numbered refusalOf rs → Tabled refusalOf k rs
-tabled {refusalOf} {k} {rs} o h e = record { order = o; each = each_proper refusalOf rs h e }
+tabled : {refusal_of : ℕ → Refusal} {k : ℕ} {rs : List Row} → in_place k rs ≡ true → all_numbered rs ≡ true
+    → refusals rs ≡ as_numbered refusal_of rs → Tabled refusal_of k rs
+tabled {refusal_of} {k} {rs} o h e = record { order = o; each = each_proper refusal_of rs h e }
 
 -- over IPv6
 module _ (p t : List ℕ) (room : ℕ) where

@@ -48,7 +48,8 @@ module _ (t e p : List ℕ) where
   at_e4_lem h = rw h
 
 -- where rows 1 and 2 pass, the call is decided at the entry that is found
-pub decide_entry_lem : (t p : List ℕ) (room i : ℕ) → sound t ≡ true → Clear (malformed (header p)) → match_entry t (Ipv6.destination p) ≡ At i
+pub decide_entry_lem : (t p : List ℕ) (room i : ℕ) → sound t ≡ true → Clear (malformed (header p)) → match_entry t (Ipv6.destination p)
+    ≡ At i
     → translate6 p t room ≡ settle room (at_entry t (entry_at t i) p)
 unfolding front_rows6
 decide_entry_lem t p room i hs hm hf =

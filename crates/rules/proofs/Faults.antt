@@ -37,11 +37,11 @@ unfolding or_else
 none_else zero g = refl
 none_else (suc f) g = rw (ne_eqb (suc f) 0 (λ e. omega arith)) (ne_eqb (suc f) 0 (λ e. omega arith))
 
-pub none_first : (faultOf : ℕ → ℕ) (holds : ℕ → Bool) → ((i : ℕ) → eqb (faultOf i) 0 ≡ holds i) → (n : ℕ)
-    → eqb (first_fault faultOf n) 0 ≡ all holds n
+pub none_first : (fault_of : ℕ → ℕ) (holds : ℕ → Bool) → ((i : ℕ) → eqb (fault_of i) 0 ≡ holds i) → (n : ℕ)
+    → eqb (first_fault fault_of n) 0 ≡ all holds n
 unfolding first_fault all
-none_first faultOf holds h zero = refl
-none_first faultOf holds h (suc n) = none_else (first_fault faultOf n) (faultOf n) ∙ rw (none_first faultOf holds h n, h n) refl
+none_first fault_of holds h zero = refl
+none_first fault_of holds h (suc n) = none_else (first_fault fault_of n) (fault_of n) ∙ rw (none_first fault_of holds h n, h n) refl
 
 -- A FAULT OF THE TABLE
 
@@ -132,10 +132,10 @@ module _ (P : ℕ → Type 0) where
   else_one zero g p q = q
   else_one (suc f) g p q = rw (ne_eqb (suc f) 0 (λ e. omega arith)) p
 
-  first_one : (faultOf : ℕ → ℕ) (n : ℕ) → P 0 → ((i : ℕ) → i < n → P (faultOf i)) → P (first_fault faultOf n)
+  first_one : (fault_of : ℕ → ℕ) (n : ℕ) → P 0 → ((i : ℕ) → i < n → P (fault_of i)) → P (first_fault fault_of n)
   unfolding first_fault
-  first_one faultOf zero z h = z
-  first_one faultOf (suc n) z h = else_one (first_fault faultOf n) (faultOf n) (first_one faultOf n z (λ i l. h i (omega arith)))
+  first_one fault_of zero z h = z
+  first_one fault_of (suc n) z h = else_one (first_fault fault_of n) (fault_of n) (first_one fault_of n z (λ i l. h i (omega arith)))
       (h n (omega arith))
 
 pub fault_named : (limit : ℕ) (t : List ℕ) → Named t (fault_within limit t)

@@ -37,23 +37,23 @@ given4 p t room = goes_by (in_room room (decide4 p t)) (tabled4 p t room).order
 -- THE SMALLEST
 
 -- no row has the number 0
-no_row_0 : (refusalOf : ℕ → Refusal) (rs : List Row) → EachProper refusalOf rs → applies 0 rs ≡ false
-no_row_0 refusalOf [] each = refl
-no_row_0 refusalOf (r ∷ rs) each =
-    rw (ne_eqb 0 r.refusal.number (λ e. omega (arith, each.0.least, e))) (no_row_0 refusalOf rs each.1)
+no_row_0 : (refusal_of : ℕ → Refusal) (rs : List Row) → EachProper refusal_of rs → applies 0 rs ≡ false
+no_row_0 refusal_of [] each = refl
+no_row_0 refusal_of (r ∷ rs) each =
+    rw (ne_eqb 0 r.refusal.number (λ e. omega (arith, each.0.least, e))) (no_row_0 refusal_of rs each.1)
 
-smallest : (refusalOf : ℕ → Refusal) (d : Decision) → Tabled refusalOf 0 d.rows → Smallest (λ n. applies n d.rows) (outcome d)
-smallest refusalOf d t = record {
+smallest : (refusal_of : ℕ → Refusal) (d : Decision) → Tabled refusal_of 0 d.rows → Smallest (λ n. applies n d.rows) (outcome d)
+smallest refusal_of d t = record {
   none = λ r h n l b c. pick r h n l b c (ℕ_discrete n 0);
   checksum = λ r h l m. ((goes_by d t.order).refused r h).before 18 (checksum_before r.number l m);
 }
   where
-    proper : (r : Refusal) → outcome d ≡ Refused r → Proper refusalOf r
-    proper r h = verdict_proper refusalOf d.rows r t.each (after-refused (verdict d.rows) d.packet r h)
+    proper : (r : Refusal) → outcome d ≡ Refused r → Proper refusal_of r
+    proper r h = verdict_proper refusal_of d.rows r t.each (after-refused (verdict d.rows) d.packet r h)
 
     pick : (r : Refusal) → outcome d ≡ Refused r → (n : ℕ) → n < r.number → (r.number ≡ 17 → n ≤ 10) → (r.number ≡ 18 → n ≤ 9)
         → Dec (n ≡ 0) → applies n d.rows ≡ false
-    pick r h n l b c (yes e) = ap (λ (m : ℕ). applies m d.rows) e ∙ no_row_0 refusalOf d.rows t.each
+    pick r h n l b c (yes e) = ap (λ (m : ℕ). applies m d.rows) e ∙ no_row_0 refusal_of d.rows t.each
     pick r h n l b c (no z) =
         ((goes_by d t.order).refused r h).before n (smaller_before n r.number (omega arith) l (proper r h).most b c)
 
@@ -103,14 +103,14 @@ icmp-fits at n h = go (eqb n 6) (eqb n 7) (eqb n 8)
     go false false true = omega arith
     go false false false = omega arith
 
-listed : (refusalOf : ℕ → Refusal) → ((n : ℕ) → Fits (refusalOf n)) → (d : Decision) → EachProper refusalOf d.rows
-    → Listed refusalOf (outcome d)
-listed refusalOf fits d each = go (verdict d.rows) refl
+listed : (refusal_of : ℕ → Refusal) → ((n : ℕ) → Fits (refusal_of n)) → (d : Decision) → EachProper refusal_of d.rows
+    → Listed refusal_of (outcome d)
+listed refusal_of fits d each = go (verdict d.rows) refl
   where
-    go : (v : Verdict) → verdict d.rows ≡ v → Listed refusalOf (after v (Sent d.packet))
+    go : (v : Verdict) → verdict d.rows ≡ v → Listed refusal_of (after v (Sent d.packet))
     go Pass e = Listed.sent d.packet refl (sent-read d.packet)
     go (Refuse r) e =
-        let q = verdict_proper refusalOf d.rows r each e in
+        let q = verdict_proper refusal_of d.rows r each e in
         let (ht, (hc, hp)) = subst Fits (sym q.fields) (fits r.number) in
         let l = refused-read r (omega (arith, q.most)) ht hc hp in
         Listed.refused r.number q.least q.most (ap Refused q.fields)

@@ -271,7 +271,8 @@ given_when6 p t room op ot =
   where
     third : (f : Found) → applies 3 ((decide_found_entry t p f).rows ++ room_row room (decide_found_entry t p f).packet ∷ []) ≡ false
     third Nothing = refl
-    third (At i) = early (in_room room (decide_entry t (entry_at t i) p)).rows 4 3 (entry_tabled p t room (entry_at t i)).order (omega arith)
+    third (At i) = early (in_room room (decide_entry t (entry_at t i) p)).rows 4 3 (entry_tabled p t room (entry_at t i)).order
+        (omega arith)
 
     fourth : (f : Found) → Best (entry_matches t (Ipv6.destination p)) (entry_bits t) (entries t) f
         → Exactly (applies 4 ((decide_found_entry t p f).rows ++ room_row room (decide_found_entry t p f).packet ∷ [])) (NoEntry p t)
@@ -379,7 +380,8 @@ given_when4 p t room op ot =
     fourth Nothing b = only_nothing Nothing (NoRule p t) (row_4_ipv4 p t Nothing b)
     fourth (At k) b = only_nothing (At k) (NoRule p t) (row_4_ipv4 p t (At k) b)
 
-    found : (k : ℕ) → match_rule t (Ipv4.destination p) ≡ At k → rows4 p t room ≡ rows_with4 (rule_at t k) p t room (decide_d4 (rule_at t k) p)
+    found : (k : ℕ) → match_rule t (Ipv4.destination p) ≡ At k → rows4 p t room
+        ≡ rows_with4 (rule_at t k) p t room (decide_d4 (rule_at t k) p)
     found k m = ap rows_at m
       where
         rows_at : Found → List Row

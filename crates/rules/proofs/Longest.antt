@@ -128,7 +128,8 @@ module _ (limit : ℕ) (t a : List ℕ) (s : sound_within limit t ≡ true) wher
       one_match 16 (λ i. Entry.prefix (entry_at t i)) (entry_bits t) (entries t) (λ i l.
       let c = h.entry i l in search conjunct depth 20) h.entry_apart a
 
-  pub rule_one : (i j : ℕ) → i < rules t → j < rules t → rule_matches t a i ≡ true → rule_matches t a j ≡ true → rule_bits t i ≡ rule_bits t j
+  pub rule_one : (i j : ℕ) → i < rules t → j < rules t → rule_matches t a i ≡ true → rule_matches t a j ≡ true → rule_bits t i
+      ≡ rule_bits t j
       → i ≡ j
   unfolding rule_sound same_rule_prefix
   rule_one =

@@ -68,7 +68,8 @@ module _ (e : List ℕ) (path : List (List ℕ)) (made p : List ℕ) where
   -- in uplink R is 0
   pub passed_quiet : Passed e path p → cond (eqb (Entry.direction e) downlink) 0 (carried6 p).args.reflective ≡ 0
   unfolding carried6 g_pdu_rows datagram
-  passed_quiet n = carried_by_quiet (Ipv6.traffic_class p) [] (Ipv6.destination p) (datagram_in6 p) (Entry.direction e) (omega (read, n.g_pdu))
+  passed_quiet n = carried_by_quiet (Ipv6.traffic_class p) [] (Ipv6.destination p) (datagram_in6 p) (Entry.direction e)
+      (omega (read, n.g_pdu))
 
 -- what was read
 pub carried6_valid : (p : List ℕ) → Octets p → Valid 16 (carried6 p)

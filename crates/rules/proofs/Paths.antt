@@ -59,7 +59,8 @@ module _ (class upper hop : ℕ) (source : List ℕ) (ws tail : List (List ℕ))
   pub arrives : (ss : List Stop) → length ss < hop → AtWaypoints ss ws
       → EachHasRoom ss (length (srv6 class upper hop source (ws ++ tail) inner))
       → trip ss (srv6 class upper hop source (ws ++ tail) inner)
-      ≡ forwards ss (srv6 class upper hop source (ws ++ tail) inner) (on_the_way class upper (hop - length ss) source (ws ++ tail) tail inner)
+      ≡ forwards ss (srv6 class upper hop source (ws ++ tail) inner) (on_the_way class upper (hop - length ss) source (ws ++ tail) tail
+      inner)
   unfolding Ends
   arrives ss hh a room =
       let held = ws ++ tail in

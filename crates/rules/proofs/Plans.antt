@@ -207,7 +207,8 @@ unfolding carried6 carried_by
 inner_6 p = sym (drop-drop (20 + 4 * Gtpu.extension_units (datagram_in6 p)) (header p).upperAt p)
 
 module _ (tail : ℕ) (e policy p : List ℕ) (h : 1 ≤ tail) (k : tail ≤ 2) where
-  pub g_pdu6_sent : sent_by (g_pdu_plan6 tail e policy p).head (g_pdu_plan6 tail e policy p).place p ≡ gtp6d_packet e (gtp6d_path tail policy
+  pub g_pdu6_sent : sent_by (g_pdu_plan6 tail e policy p).head (g_pdu_plan6 tail e policy p).place p
+      ≡ gtp6d_packet e (gtp6d_path tail policy
       (carried6 p)) (carried6 p)
   unfolding g_pdu_plan6 gtp6d_packet gtp6d_path
   g_pdu6_sent =
@@ -240,7 +241,8 @@ module _ (tail : ℕ) (e policy p : List ℕ) (h : 1 ≤ tail) (k : tail ≤ 2) 
       let is : gtp6d_plan tail e policy p ≡ echo_plan6 e p = rw t in
       sym (ap (λ (plan : Plan). carry_out plan p) is) ∙ gtp6d_carried_out
 
-  pub g_pdu6_carried_out : is_echo (datagram (datagram_in6 p)) ≡ false → carry_out (g_pdu_plan6 tail e policy p) p ≡ at_gtp6d tail e policy p
+  pub g_pdu6_carried_out : is_echo (datagram (datagram_in6 p)) ≡ false → carry_out (g_pdu_plan6 tail e policy p) p
+      ≡ at_gtp6d tail e policy p
   unfolding gtp6d_plan
   g_pdu6_carried_out t =
       let is : gtp6d_plan tail e policy p ≡ g_pdu_plan6 tail e policy p = rw t in

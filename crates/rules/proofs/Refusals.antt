@@ -158,7 +158,10 @@ module _ (p : List ℕ) where
 
   pub row_5_e6 : Exactly (any (not (has_srh (header p)) ∷ bad_chain (header p))) (BadChainE6 p)
   unfolding header
-  row_5_e6 = (or_leads (BadChainE6 p) (not (has_srh (header p))) (any (bad_chain (header p))) none (λ e. BadChainE6.chain (row_5.0 e)), back)
+  row_5_e6 = (
+    or_leads (BadChainE6 p) (not (has_srh (header p))) (any (bad_chain (header p))) none (λ e. BadChainE6.chain (row_5.0 e)),
+    back,
+  )
     where
       none : not (has_srh (header p)) ≡ true → BadChainE6 p
       none e = BadChainE6.no_srh (differs_true _ _ e)
@@ -228,7 +231,8 @@ module _ (p : List ℕ) where
       back (BadLeftE6.beyond_held h) = any_at ts 1 (omega (hold, h))
 
   pub row_7_waypoint : Exactly
-      (any (given (underway (Srh.segments_left p) (header p)) (beyond_held (header p) ∷ ltb (Srh.last_entry p + 1) (Srh.segments_left p) ∷ [])))
+      (any (given (underway (Srh.segments_left p) (header p)) (beyond_held (header p) ∷ ltb (Srh.last_entry p + 1) (Srh.segments_left p) ∷
+      [])))
       (BadLeftWaypoint p)
   unfolding header
   row_7_waypoint = (any-leads (BadLeftWaypoint p) (given u ts) (leads-given (BadLeftWaypoint p) u ts leads), back)
@@ -294,7 +298,8 @@ module _ (session next : ℕ) where
       either : as_either ≡ true → S
       either e =
           let a = eqb-true session 3 (and_left (eqb session 3) (eqb next 4 || eqb next 41) e) in
-          or_leads S (eqb next 4) (eqb next 41) (λ k. OfSession.ipv4v6_as4 a (eqb-true _ _ k)) (λ k. OfSession.ipv4v6_as6 a (eqb-true _ _ k))
+          or_leads S (eqb next 4) (eqb next 41) (λ k. OfSession.ipv4v6_as4 a (eqb-true _ _ k))
+          (λ k. OfSession.ipv4v6_as6 a (eqb-true _ _ k))
           (and_right (eqb session 3) (eqb next 4 || eqb next 41) e)
 
   of_session : OfSession session next → accepts session next ≡ true

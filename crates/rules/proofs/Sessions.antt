@@ -7,7 +7,8 @@ use native.Mathlib.Omega.{arith}
 use lib.Dec.{eqb}
 use borrow.Author.Tests.{eqb-true}
 use Rattle.rules.specs.Octets.{octet}
-use Rattle.rules.specs.Assigned.{hop_by_hop, routing_header, fragment_header, destination_options, ipv4_session, ipv6_session, ipv4v6_session}
+use Rattle.rules.specs.Assigned.{hop_by_hop, routing_header, fragment_header, destination_options, ipv4_session, ipv6_session}
+use Rattle.rules.specs.Assigned.{ipv4v6_session}
 use Rattle.rules.specs.Assigned.{ethernet_session, ipv4_protocol, ipv6_protocol}
 use Rattle.rules.specs.Sound.{session_known}
 use Rattle.rules.specs.Session.{inner_protocol, accepts}

@@ -45,9 +45,9 @@ unfoldable pub at_entry : (t e p : List ℕ) → Outcome
 at_entry t e p = outcome (decide_entry t e p)
 
 -- rows from 4 on, with the record that is found; where none is, row 4 refuses and no packet is made
-abbrev pub with_found : (decideAt : ℕ → Decision) → Found → Decision
-with_found decideAt Nothing = record { rows = unmatched_row Nothing ∷ []; packet = [] }
-with_found decideAt (At i) = record { rows = unmatched_row (At i) ∷ (decideAt i).rows; packet = (decideAt i).packet }
+abbrev pub with_found : (decide_at : ℕ → Decision) → Found → Decision
+with_found decide_at Nothing = record { rows = unmatched_row Nothing ∷ []; packet = [] }
+with_found decide_at (At i) = record { rows = unmatched_row (At i) ∷ (decide_at i).rows; packet = (decide_at i).packet }
 
 unfoldable pub decide_found_entry : (t p : List ℕ) → Found → Decision
 decide_found_entry t p found = with_found (λ i. decide_entry t (entry_at t i) p) found

@@ -59,10 +59,10 @@ EachHasRoom [] n = Unit {0}
 EachHasRoom (s ∷ ss) n = HasRoom s n × EachHasRoom ss n
 
 -- near and waypoints send a packet of one size, the far gateway one of another
-pub record Room (near : Stop) (ss : List Stop) (far : Stop) (on_the_way atTheEnd : ℕ) : Type 0 where
+pub record Room (near : Stop) (ss : List Stop) (far : Stop) (on_the_way at_the_end : ℕ) : Type 0 where
   pub at_near : HasRoom near on_the_way
   pub at_waypoints : EachHasRoom ss on_the_way
-  pub at_far : HasRoom far atTheEnd
+  pub at_far : HasRoom far at_the_end
 
 -- the policy of entry i
 abbrev pub policy_of : Stop → (i : ℕ) → List ℕ
@@ -130,12 +130,12 @@ EachSame [] (s' ∷ ss') = ⊥
 EachSame (s ∷ ss) [] = ⊥
 
 -- other stops for a second trip: the same calls and tables, other buffers, which have room too
-pub record Again (near : Stop) (ss : List Stop) (far : Stop) (near' : Stop) (ss' : List Stop) (far' : Stop) (on_the_way atTheEnd : ℕ)
+pub record Again (near : Stop) (ss : List Stop) (far : Stop) (near' : Stop) (ss' : List Stop) (far' : Stop) (on_the_way at_the_end : ℕ)
     : Type 0 where
   pub same_near : Same near near'
   pub same_waypoints : EachSame ss ss'
   pub same_far : Same far far'
-  pub room : Room near' ss' far' on_the_way atTheEnd
+  pub room : Room near' ss' far' on_the_way at_the_end
 
 -- What a trip delivers: it arrives; every field of the result is as docs/RULES.md, Written, fixes it, said without a writer; the result
 -- is the headers and the inner octets; a reader reads from it what it read from the packet that went in; and both second trips, begun

@@ -60,9 +60,9 @@ unfoldable pub or_else : (f g : ℕ) → ℕ
 or_else f g = cond (eqb f 0) g f
 
 -- of the faults of the numbers below n the first that there is
-unfoldable pub first_fault : (faultOf : ℕ → ℕ) → (n : ℕ) → ℕ
-first_fault faultOf zero = 0
-first_fault faultOf (suc n) = or_else (first_fault faultOf n) (faultOf n)
+unfoldable pub first_fault : (fault_of : ℕ → ℕ) → (n : ℕ) → ℕ
+first_fault fault_of zero = 0
+first_fault fault_of (suc n) = or_else (first_fault fault_of n) (fault_of n)
 
 -- THE TABLE
 

@@ -38,7 +38,8 @@ without_icmp number = icmp number 0 0 0
 -- its pointer at the upper-layer header
 abbrev pub with_icmp : (upper_at number : ℕ) → Refusal
 with_icmp upper_at number =
-    cond (eqb number 6) (icmp 6 3 0 0) (cond (eqb number 7) (icmp 7 4 0 43) (cond (eqb number 8) (icmp 8 4 4 upper_at) (without_icmp number)))
+    cond (eqb number 6) (icmp 6 3 0 0) (cond (eqb number 7) (icmp 7 4 0 43)
+    (cond (eqb number 8) (icmp 8 4 4 upper_at) (without_icmp number)))
 
 -- number, ICMP type, code and pointer, and length, read from the answer in one number
 pub record ReadBack (answer n kind code at octets : ℕ) : Type 0 where
@@ -50,10 +51,10 @@ pub record ReadBack (answer n kind code at octets : ℕ) : Type 0 where
 
 -- An answer of the list (docs/RULES.md, Answers): 0 with the length of what is sent, or a number from 1 to 18 with its ICMP fields and
 -- length 0.
-pub data Listed (refusalOf : ℕ → Refusal) (o : Outcome) : Type 0 where
-  sent : (x : List ℕ) → o ≡ Sent x → ReadBack (packed o) 0 0 0 0 (length x) → Listed refusalOf o
-  refused : (n : ℕ) → 1 ≤ n → n ≤ 18 → o ≡ Refused (refusalOf n)
-      → ReadBack (packed o) n (refusalOf n).icmpType (refusalOf n).icmpCode (refusalOf n).pointer 0 → Listed refusalOf o
+pub data Listed (refusal_of : ℕ → Refusal) (o : Outcome) : Type 0 where
+  sent : (x : List ℕ) → o ≡ Sent x → ReadBack (packed o) 0 0 0 0 (length x) → Listed refusal_of o
+  refused : (n : ℕ) → 1 ≤ n → n ≤ 18 → o ≡ Refused (refusal_of n)
+      → ReadBack (packed o) n (refusal_of n).icmpType (refusal_of n).icmpCode (refusal_of n).pointer 0 → Listed refusal_of o
 
 -- WHAT THE OUTPUT HOLDS AFTERWARDS
 

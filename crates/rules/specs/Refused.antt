@@ -165,7 +165,8 @@ pub data BadExtension (u : List ℕ) : Type 0 where
   no_units : Gtpu.extension_flag u ≡ 1 → Gtpu.extension_type u ≢ 0 → Gtpu.extension_units u ≡ 0 → BadExtension u
   past_end : Gtpu.extension_flag u ≡ 1 → Gtpu.extension_type u ≢ 0 → length u < 20 + 4 * Gtpu.extension_units u → BadExtension u
   second : Gtpu.extension_flag u ≡ 1 → Gtpu.extension_type u ≢ 0 → Gtpu.following_type u ≡ 0x85 → BadExtension u
-  type_behind : Gtpu.extension_flag u ≡ 1 → Gtpu.extension_type u ≢ 0 → Gtpu.following_type u ≢ 0 → Gtpu.following_type u ≢ 0x85 → BadExtension u
+  type_behind : Gtpu.extension_flag u ≡ 1 → Gtpu.extension_type u ≢ 0 → Gtpu.following_type u ≢ 0 → Gtpu.following_type u ≢ 0x85
+      → BadExtension u
 
 -- 13: no container, or not the entry's direction
 

@@ -16,7 +16,8 @@ srv6 traffic_class upper hop_limit source path inner =
 -- past waypoints to a SID; with no waypoints there is no SRH
 abbrev pub past_waypoints : (traffic_class upper hop_limit : ℕ) (source : List ℕ) (waypoints : List (List ℕ)) (sid inner : List ℕ) → List ℕ
 past_waypoints traffic_class upper hop_limit source [] sid inner = ipv6 traffic_class (length inner) upper hop_limit source sid inner
-past_waypoints traffic_class upper hop_limit source (w ∷ ws) sid inner = srv6 traffic_class upper hop_limit source (w ∷ ws ++ sid ∷ []) inner
+past_waypoints traffic_class upper hop_limit source (w ∷ ws) sid inner = srv6 traffic_class upper hop_limit source (w ∷ ws ++ sid ∷ [])
+    inner
 
 abbrev pub past_waypoints_payload : (waypoints : List (List ℕ)) (inner : List ℕ) → ℕ
 past_waypoints_payload [] inner = length inner

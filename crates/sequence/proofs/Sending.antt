@@ -104,7 +104,8 @@ module _ (p t : List ℕ) (room : ℕ) (x : List ℕ) where
   unfolding front_rows4
   sent_passes4 type h =
       let match = match_rule t (Ipv4.destination p) in
-      let (n, k) = unless-sent (front_rows4 t (header4 p)) (at_found_rule t p match) x (sent-settle room _ x (sym (settled4 p t room) ∙ h)) in
+      let (n, k) = unless-sent (front_rows4 t (header4 p)) (at_found_rule t p match) x (sent-settle room _ x (sym (settled4 p t room)
+      ∙ h)) in
       go match n.1 k
     where
       go : (f : Found) → None (row (malformed4 (header4 p)) 2 ∷ row (bad_header4 (header4 p)) 3 ∷ []) → at_found_rule t p f ≡ Sent x

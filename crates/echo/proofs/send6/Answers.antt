@@ -24,11 +24,13 @@ head_of p at class hops source destination datagram hs hd hu =
 pub returns-then-a-eq0 : goal.returns-then-a-eq0
 returns-then-a-eq0 c =
     let a = c.args in
-    reply_sent _ a.packet.now c.send-a.ensures (head_of a.packet.now a.at a.class a.hops _ _ _ c.window16-source.ensures c.window16-destination.ensures c.response6-datagram.ensures)
+    reply_sent _ a.packet.now c.send-a.ensures (head_of a.packet.now a.at a.class a.hops _ _ _ c.window16-source.ensures
+    c.window16-destination.ensures c.response6-datagram.ensures)
     c.if-a-eq0.true c.put_reply6.ensures
 
 pub returns-else-a-eq0 : goal.returns-else-a-eq0
 returns-else-a-eq0 c =
     let a = c.args in
-    reply_no_room _ a.packet.now c.send-a.ensures (head_of a.packet.now a.at a.class a.hops _ _ _ c.window16-source.ensures c.window16-destination.ensures c.response6-datagram.ensures) c.if-a-eq0.false
+    reply_no_room _ a.packet.now c.send-a.ensures (head_of a.packet.now a.at a.class a.hops _ _ _ c.window16-source.ensures
+    c.window16-destination.ensures c.response6-datagram.ensures) c.if-a-eq0.false
     (simp length-append (omega (arith, c.response6-datagram.type_inv, c.window16-source.type_inv, c.window16-destination.type_inv)))

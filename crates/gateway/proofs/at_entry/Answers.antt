@@ -43,9 +43,9 @@ module _ (t : List ℕ) (i : ℕ) {e : List ℕ} (same : e ≡ entry_at t i) whe
     ne_eqb _ end_m_gtp4e (λ q. n₃ (sym behaviour-is ∙ q)),
   )
 
-  gtp6D-of : {p : List ℕ} {h : Header} → Matched t i p h → (octet e 0 ≡ end → ⊥) → (octet e 0 ≡ end_m_gtp6e → ⊥)
+  gtp6d_of : {p : List ℕ} {h : Header} → Matched t i p h → (octet e 0 ≡ end → ⊥) → (octet e 0 ≡ end_m_gtp6e → ⊥)
       → (octet e 0 ≡ end_m_gtp4e → ⊥) → SoundGtp6D t (entry_at t i)
-  gtp6D-of {p = p} m n₁ n₂ n₃ =
+  gtp6d_of {p = p} m n₁ n₂ n₃ =
       let o = other n₁ n₂ n₃ in
       found_at_gtp6d t (Ipv6.destination p) i m.sound m.found o.0 o.1 o.2
 
@@ -109,7 +109,7 @@ policy_at-policy-requires c =
     let m = c.requires.0 in
     let same = c.entry_at-e.ensures.same in
     let k = c.wide.ensures.0 ∙ ap (λ (e : List ℕ). octet e 5) same in
-    let d = gtp6D-of a.table.now a.i same m c.if-behaviour-eq-END.false c.if-behaviour-eq-END_M_GTP6_E.false
+    let d = gtp6d_of a.table.now a.i same m c.if-behaviour-eq-END.false c.if-behaviour-eq-END_M_GTP6_E.false
     c.if-behaviour-eq-END_M_GTP4_E.false in
     rw k (policy_within a.table.now m.sound (Entry.policy (entry_at a.table.now a.i)) d.named)
 
@@ -119,7 +119,7 @@ at_gtp6d-requires c =
     let m = c.requires.0 in
     let k = c.tail_of.ensures in
     let same = c.entry_at-e.ensures.same in
-    let d = gtp6D-of a.table.now a.i same m c.if-behaviour-eq-END.false c.if-behaviour-eq-END_M_GTP6_E.false
+    let d = gtp6d_of a.table.now a.i same m c.if-behaviour-eq-END.false c.if-behaviour-eq-END_M_GTP6_E.false
     c.if-behaviour-eq-END_M_GTP4_E.false in
     record {
       entry = c.entry_at-e.ensures.long;

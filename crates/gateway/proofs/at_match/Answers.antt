@@ -34,7 +34,8 @@ returns-in-Nothing c =
     let room : ℕ = length a.out.now in
     let f = found-is t p c.window16-destination.ensures c.find_entry-found.ensures c.in-Nothing.is in
     record {
-      answered = answered_named _ (plain 4) _ _ _ (ap (λ (f : Found). settle room (at_found_entry t p f)) f ∙ ap (settle room) (at_no_entry t
+      answered = answered_named _ (plain 4) _ _ _ (ap (λ (f : Found). settle room (at_found_entry t p f)) f
+          ∙ ap (settle room) (at_no_entry t
           p)) c.no_match.ensures c.refused.ensures;
       found = sym f;
       upperAt = refl;

@@ -32,7 +32,8 @@ find_rule-found-requires c = (
 pub rule_at-r-requires : goal.rule_at-r-requires
 rule_at-r-requires c =
     let a = c.args in
-    found-rule_within a.table.now c.requires.0 (Ipv4.destination a.packet.now) _ (found-is a.table.now a.packet.now c.window4-destination.ensures
+    found-rule_within a.table.now c.requires.0 (Ipv4.destination a.packet.now) _
+    (found-is a.table.now a.packet.now c.window4-destination.ensures
     c.find_rule-found.ensures c.in-At.is)
 
 pub at_d4-answer-requires : goal.at_d4-answer-requires

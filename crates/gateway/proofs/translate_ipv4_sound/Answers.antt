@@ -51,13 +51,12 @@ returns-then-bad_header4 c =
     }
 
 pub at_match4-requires : goal.at_match4-requires
-at_match4-requires c =
-    (
-      c.requires,
-      well_formed4 c.args.packet.now _ (viewed c.args.packet.now c.window20.ensures c.header4_of-h.ensures)
-          (sym c.is_malformed4.ensures ∙ c.if-is_malformed4.false)
-          (omega (arith, c)),
-    )
+at_match4-requires c = (
+  c.requires,
+  well_formed4 c.args.packet.now _ (viewed c.args.packet.now c.window20.ensures c.header4_of-h.ensures)
+      (sym c.is_malformed4.ensures ∙ c.if-is_malformed4.false)
+      (omega (arith, c)),
+)
 
 pub returns : goal.returns
 unfolding rule_found

@@ -4,7 +4,8 @@ use Rattle.loss.specs.Loss.{row_at, free, of_teid, used_of}
 use Rattle.loss.specs.declared.Row.{Row}
 use Rattle.loss.proofs.Searching.{used_le, NoneBefore, none_yet, offer-none, offer-full, offer-counted, offer-started}
 use Rattle.loss.proofs.offer.Goals as goal
-use Rattle.loss.proofs.offer.Goals.{else-loop-own-test, then-loop-own-test+then-is_of, else-loop-place-test, then-loop-place-test+then-is_free}
+use Rattle.loss.proofs.offer.Goals.{else-loop-own-test, then-loop-own-test+then-is_of, else-loop-place-test}
+use Rattle.loss.proofs.offer.Goals.{then-loop-place-test+then-is_free}
 
 -- how a loop over the first n rows ends at place i
 abbrev Ends : (meets : Row → Bool) (rows : List Row) (n i : ℕ) → Type 0
@@ -63,7 +64,8 @@ returns-then-place-n c =
       | else-loop-place-test w ↦ inl w.loop-place-test.false
       | then-loop-place-test+then-is_free w ↦ inr (sym w.is_free.ensures ∙ w.if-is_free.true)
     ] in
-    let others = subst (λ (k : ℕ). NoneBefore (of_teid c.args.teid) rows k) (c.if-own-n.false ∙ c.used_of-n.ensures) c.loop-own.invariant.none in
+    let others = subst (λ (k : ℕ). NoneBefore (of_teid c.args.teid) rows k) (c.if-own-n.false ∙ c.used_of-n.ensures)
+    c.loop-own.invariant.none in
     offer-started rows c.args.teid c.args.number c.loop-place.place (omega (arith, c.used_of-n.ensures))
     (found free rows c.used_of-n.result c.loop-place.place ends c.if-place-n.true)
     c.loop-place.invariant.none
@@ -75,7 +77,8 @@ pub returns : goal.returns
 returns c =
     let rows = c.args.rows.now in
     let e : c.loop-place.place ≡ used_of (length rows) = omega (arith, c.used_of-n.ensures) in
-    let others = subst (λ (k : ℕ). NoneBefore (of_teid c.args.teid) rows k) (c.if-own-n.false ∙ c.used_of-n.ensures) c.loop-own.invariant.none in
+    let others = subst (λ (k : ℕ). NoneBefore (of_teid c.args.teid) rows k) (c.if-own-n.false ∙ c.used_of-n.ensures)
+    c.loop-own.invariant.none in
     offer-none rows c.args.teid c.args.number
     (subst (λ (k : ℕ). NoneBefore free rows k) e c.loop-place.invariant.none)
     others

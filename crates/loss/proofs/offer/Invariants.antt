@@ -5,13 +5,25 @@ use Rattle.loss.proofs.Searching.{NoneBefore}
 use Rattle.loss.proofs.offer.Given as goal
 
 abbrev pub invariant-loop-own : goal.invariant-loop-own
-invariant-loop-own l = record { within : l.own ≤ l.n; lent : l.n ≤ length l.rows; few : l.n ≤ 256; none : NoneBefore (of_teid l.teid) l.rows l.own }
+invariant-loop-own l = record {
+  within : l.own ≤ l.n;
+  lent : l.n ≤ length l.rows;
+  few : l.n ≤ 256;
+  none : NoneBefore (of_teid l.teid)
+      l.rows l.own;
+}
 
 abbrev pub decreases-loop-own : goal.decreases-loop-own
 decreases-loop-own l = l.n - l.own
 
 abbrev pub invariant-loop-place : goal.invariant-loop-place
-invariant-loop-place l = record { within : l.place ≤ l.n; lent : l.n ≤ length l.rows; few : l.n ≤ 256; none : NoneBefore free l.rows l.place }
+invariant-loop-place l = record {
+  within : l.place ≤ l.n;
+  lent : l.n ≤ length l.rows;
+  few : l.n ≤ 256;
+  none : NoneBefore free l.rows
+      l.place;
+}
 
 abbrev pub decreases-loop-place : goal.decreases-loop-place
 decreases-loop-place l = l.n - l.place

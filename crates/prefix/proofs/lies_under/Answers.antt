@@ -5,7 +5,8 @@ use Rattle.prefix.proofs.lies_under.Goals as goal
 
 pub returns-then-not-same_octets : goal.returns-then-not-same_octets
 returns-then-not-same_octets c w l =
-    told_differ _ _ (λ i. (c.type_inv.address i).fits) (λ i. (c.type_inv.prefix i).fits) w _ _ (sym c.same_octets.ensures ∙ c.if-not-same_octets.true)
+    told_differ _ _ (λ i. (c.type_inv.address i).fits) (λ i. (c.type_inv.prefix i).fits) w _ _ (sym c.same_octets.ensures
+    ∙ c.if-not-same_octets.true)
     (omega arith) (omega arith)
 
 pub returns-then-part-eq0 : goal.returns-then-part-eq0

@@ -20,7 +20,8 @@ loop-i-preserved c =
       elim c.if-entry_matched.branch [
         | then-entry_matched w ↦ w.found-is ∙ w.longer_entry-found.ensures ∙ rw k.invariant.1
             (sym (longest_hit _ _ k.i (sym c.entry_matched.ensures ∙ w.if-entry_matched.true)))
-        | else-entry_matched w ↦ w.found-is ∙ k.invariant.1 ∙ sym (longest_miss _ _ k.i (sym c.entry_matched.ensures ∙ w.if-entry_matched.false))
+        | else-entry_matched w ↦ w.found-is ∙ k.invariant.1
+            ∙ sym (longest_miss _ _ k.i (sym c.entry_matched.ensures ∙ w.if-entry_matched.false))
       ],
     )
 

@@ -20,7 +20,8 @@ loop-i-preserved c =
       elim c.if-entry_reached4.branch [
         | then-entry_reached4 w ↦ w.found-is ∙ w.longer_entry-found.ensures ∙ rw k.invariant.1
             (sym (longest_hit _ _ k.i (sym c.entry_reached4.ensures ∙ w.if-entry_reached4.true)))
-        | else-entry_reached4 w ↦ w.found-is ∙ k.invariant.1 ∙ sym (longest_miss _ _ k.i (sym c.entry_reached4.ensures ∙ w.if-entry_reached4.false))
+        | else-entry_reached4 w ↦ w.found-is ∙ k.invariant.1
+            ∙ sym (longest_miss _ _ k.i (sym c.entry_reached4.ensures ∙ w.if-entry_reached4.false))
       ],
     )
 

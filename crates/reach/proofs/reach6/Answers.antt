@@ -20,7 +20,8 @@ loop-i-preserved c =
       elim c.if-entry_reached6.branch [
         | then-entry_reached6 w ↦ w.found-is ∙ w.longer_entry-found.ensures ∙ rw k.invariant.1
             (sym (longest_hit _ _ k.i (sym c.entry_reached6.ensures ∙ w.if-entry_reached6.true)))
-        | else-entry_reached6 w ↦ w.found-is ∙ k.invariant.1 ∙ sym (longest_miss _ _ k.i (sym c.entry_reached6.ensures ∙ w.if-entry_reached6.false))
+        | else-entry_reached6 w ↦ w.found-is ∙ k.invariant.1
+            ∙ sym (longest_miss _ _ k.i (sym c.entry_reached6.ensures ∙ w.if-entry_reached6.false))
       ],
     )
 

@@ -35,7 +35,8 @@ returns c =
     let t : length (take (length p - at) (drop at p)) ≡ length u = ap length (tail_all at p) in
     let l : x.result + length (take (length p - at) (drop at p)) + 17 + y.result ≡ x.result + y.result + (length u + 17) =
     omega arith in
-    let r : word_sum (window p 8 16) + word_sum (window p 24 16) + word_sum u + (length u + 17) ≡ total_sum (window p 8 16) (window p 24 16) u =
+    let r : word_sum (window p 8 16) + word_sum (window p 24 16) + word_sum u + (length u + 17)
+    ≡ total_sum (window p 8 16) (window p 24 16) u =
     omega arith in
     rw (ne_eqb _ 0 n)
     (ap not

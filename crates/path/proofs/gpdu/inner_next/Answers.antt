@@ -12,7 +12,12 @@ returns-then-session-eq-IPV6_SESSION c = rw (ne_eqb _ _ c.if-session-eq-IPV4_SES
 
 pub returns-then-session-eq-ETHERNET_SESSION : goal.returns-then-session-eq-ETHERNET_SESSION
 unfolding inner_protocol
-returns-then-session-eq-ETHERNET_SESSION c = rw (ne_eqb _ _ c.if-session-eq-IPV4_SESSION.false, ne_eqb _ _ c.if-session-eq-IPV6_SESSION.false, eq-eqb _ _ c.if-session-eq-ETHERNET_SESSION.true)
+returns-then-session-eq-ETHERNET_SESSION c = rw (
+  ne_eqb _ _ c.if-session-eq-IPV4_SESSION.false,
+  ne_eqb _ _
+      c.if-session-eq-IPV6_SESSION.false,
+  eq-eqb _ _ c.if-session-eq-ETHERNET_SESSION.true,
+)
 
 pub returns-then-first-eq4 : goal.returns-then-first-eq4
 unfolding inner_protocol

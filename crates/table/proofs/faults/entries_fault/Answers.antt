@@ -33,5 +33,8 @@ loop-i-preserved c =
     let t : List ℕ = c.args.table.now in
     let i : ℕ = c.loop-i.i in
     let e : c.broken-condition.result ≡ entry_broken (policies t) (entry_at t i) =
-    rw (c.broken-condition.ensures, c.entry_at.ensures.same, c.policies-policy_count.ensures.value) refl in
-    (search rules, first_more (fault_at t) i c.loop-i.invariant.1 (ap (told entry_record i) (sym e ∙ c.if-condition-ne0.false) ∙ told_none entry_record i))
+    rw (c.broken-condition.ensures, c.entry_at.ensures.same, c.policies-policy_count.ensures.value) refl in (
+      search rules,
+      first_more (fault_at t) i c.loop-i.invariant.1 (ap (told entry_record i) (sym e ∙ c.if-condition-ne0.false)
+          ∙ told_none entry_record i),
+    )

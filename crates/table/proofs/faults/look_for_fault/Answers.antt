@@ -3,7 +3,8 @@ use mathlib.Core.List.{List}
 use Prim.Native.Nat.{ℕ}
 use borrow.Author.Tests.{ne_eqb}
 use Rattle.rules.specs.Sound.{entry_limit}
-use Rattle.rules.specs.Fault.{header_record, header_broken, header_fault, entries_fault, entry_prefixes_fault, rules_fault, rule_prefixes_fault}
+use Rattle.rules.specs.Fault.{header_record, header_broken, header_fault, entries_fault, entry_prefixes_fault, rules_fault}
+use Rattle.rules.specs.Fault.{rule_prefixes_fault}
 use Rattle.rules.specs.Fault.{policies_fault, told, or_else, fault_within, fault}
 use Rattle.rules.proofs.Faults.{none_told}
 use Rattle.table.proofs.Trying.{next, else_zero, else_fault, told_none}
@@ -15,7 +16,8 @@ headerless : (t : List ℕ) → header_broken entry_limit t ≡ 0
 unfolding fault_within
 headerless t e =
     let rest : ℕ =
-    or_else (entries_fault t) (or_else (entry_prefixes_fault t) (or_else (rules_fault t) (or_else (rule_prefixes_fault t) (policies_fault t)))) in
+    or_else (entries_fault t) (or_else (entry_prefixes_fault t)
+    (or_else (rules_fault t) (or_else (rule_prefixes_fault t) (policies_fault t)))) in
     ap (λ (f : ℕ). or_else f rest) (ap (told header_record 0) e ∙ told_none header_record 0) ∙ else_zero rest
 
 pub returns-then-header-ne0 : goal.returns-then-header-ne0

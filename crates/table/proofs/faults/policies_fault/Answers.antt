@@ -31,5 +31,8 @@ pub loop-j-preserved : goal.loop-j-preserved
 loop-j-preserved c =
     let t : List ℕ = c.args.table.now in
     let j : ℕ = c.loop-j.j in
-    let e : c.broken-condition.result ≡ policy_broken (policy_at t j) = rw (c.broken-condition.ensures, c.policy_at.ensures.same) refl in
-    (search rules, first_more (fault_at t) j c.loop-j.invariant.1 (ap (told policy_record j) (sym e ∙ c.if-condition-ne0.false) ∙ told_none policy_record j))
+    let e : c.broken-condition.result ≡ policy_broken (policy_at t j) = rw (c.broken-condition.ensures, c.policy_at.ensures.same) refl in (
+      search rules,
+      first_more (fault_at t) j c.loop-j.invariant.1 (ap (told policy_record j) (sym e ∙ c.if-condition-ne0.false)
+          ∙ told_none policy_record j),
+    )

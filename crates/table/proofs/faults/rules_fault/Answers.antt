@@ -31,5 +31,8 @@ pub loop-k-preserved : goal.loop-k-preserved
 loop-k-preserved c =
     let t : List ℕ = c.args.table.now in
     let k : ℕ = c.loop-k.k in
-    let e : c.broken-condition.result ≡ rule_broken (rule_at t k) = rw (c.broken-condition.ensures, c.rule_at.ensures.same) refl in
-    (search rules, first_more (fault_at t) k c.loop-k.invariant.1 (ap (told rule_record k) (sym e ∙ c.if-condition-ne0.false) ∙ told_none rule_record k))
+    let e : c.broken-condition.result ≡ rule_broken (rule_at t k) = rw (c.broken-condition.ensures, c.rule_at.ensures.same) refl in (
+      search rules,
+      first_more (fault_at t) k c.loop-k.invariant.1 (ap (told rule_record k) (sym e ∙ c.if-condition-ne0.false)
+          ∙ told_none rule_record k),
+    )
