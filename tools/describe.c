@@ -272,7 +272,10 @@ void icmp_describe(FILE *to, const uint8_t *message, size_t length)
 {
     const struct packet_reading reading = packet_read(message, length);
     say_addresses(to, &reading);
-    say_icmp(to, &reading);
+    if (reading.icmp != NULL)
+        say_icmp(to, &reading);
+    else
+        say_next_header(to, reading.next_header);
     fprintf(to, ", %zu octets", length);
 }
 
