@@ -92,6 +92,7 @@ at_e4-requires c =
     let f = found-e4 entry_limit a.table.now (Ipv6.destination a.packet.now) a.i m.sound m.found b in
     (record { entry = l.long; arrived = m.arrived }, subst SoundE4 (sym l.same) f)
 
+-- what the call answered is found by what it says, not by the name of the function
 pub returns-then-behaviour-eq-END_M_GTP4_E : goal.returns-then-behaviour-eq-END_M_GTP4_E
 returns-then-behaviour-eq-END_M_GTP4_E c =
     let a = c.args in
@@ -101,7 +102,7 @@ returns-then-behaviour-eq-END_M_GTP4_E c =
     let same = c.entry_at-e.ensures.same in
     let b = behaviour-is t a.i same ∙ c.if-behaviour-eq-END_M_GTP4_E.true in
     answered_as _ _ _ _ _ ((λ i. settle room (at_e4 (same i) p)) ∙ ap (settle room) (sym (at_e4_lem t (entry_at t a.i) p b)))
-    c.at_e4.ensures
+    (assumption c)
 
 pub policy_at-policy-requires : goal.policy_at-policy-requires
 policy_at-policy-requires c =

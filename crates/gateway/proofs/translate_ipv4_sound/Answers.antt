@@ -37,6 +37,7 @@ returns-then-is_malformed4 c =
       upperAt = refl;
     }
 
+-- the refusal is found by what it says, not by the name of its maker
 pub returns-then-bad_header4 : goal.returns-then-bad_header4
 unfolding rule_found
 returns-then-bad_header4 c =
@@ -45,7 +46,7 @@ returns-then-bad_header4 c =
     let b = tested-3 a.packet.now c.window20.ensures c.header4_of-h.ensures c.bad_header4.ensures c.if-bad_header4.true in
     let refused = bad_4 a.packet.now a.table.now (length a.out.now) c.requires m b in
     record {
-      answered = answered_named _ (plain 3) _ _ _ refused c.bad_header4-then-bad_header4.ensures c.refused-then-bad_header4.ensures;
+      answered = answered_named _ (plain 3) _ _ _ refused (assumption c) c.refused-then-bad_header4.ensures;
       found = rw (m, b);
       upperAt = refl;
     }
