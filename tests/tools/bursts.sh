@@ -47,15 +47,20 @@ alike_told() { # CAPTURE OUT BLOCKS
     sed -n 's/^ICMPv6 messages: \([0-9]*\) written, none due for \([0-9]*\) .*/\1 \2/p' bursts.summary >>messages
 }
 
+# Sixty captures of a kind: with no limit on what is written, with one of few blocks, and onto a full disk.
+sixty() { # FUNCTION KIND WORDS
+    codes=()
+    for ((number = 0; number < 60; number++)); do
+        "$1" "$2-$number.pcap" sent.pcap unlimited
+        "$1" "$2-$number.pcap" sent.pcap $((number % 30 + 1))
+        "$1" "$2-$number.pcap" /dev/full unlimited
+    done
+    [ "$(printf '%s\n' "${codes[@]}" | sort -u | xargs)" = "0 1 3" ] || fail "the exit codes are not 0, 1 and 3$3"
+}
+
 run 0 compile "$here/../../examples/yard/office.yaml" -o office
 python3 -B "$here/bursts.py" . 1 60
-codes=()
-for ((number = 0; number < 60; number++)); do
-    alike drawn-$number.pcap sent.pcap unlimited
-    alike drawn-$number.pcap sent.pcap $((number % 30 + 1))
-    alike drawn-$number.pcap /dev/full unlimited
-done
-[ "$(printf '%s\n' "${codes[@]}" | sort -u | xargs)" = "0 1 3" ] || fail "the exit codes are not 0, 1 and 3"
+sixty alike drawn ""
 
 # the disk is full at packet 25, and frame 30 is snapped: packets that are gathered are written before anything is said of a frame
 alike behind.pcap /dev/full unlimited
@@ -63,13 +68,7 @@ echo "kawsarpa: /dev/full: No space left on device" | diff - bursts.stderr >&2 |
 checks=$((checks + 1))
 
 # ICMPv6 messages
-codes=()
-for ((number = 0; number < 60; number++)); do
-    alike_told refused-$number.pcap sent.pcap unlimited
-    alike_told refused-$number.pcap sent.pcap $((number % 30 + 1))
-    alike_told refused-$number.pcap /dev/full unlimited
-done
-[ "$(printf '%s\n' "${codes[@]}" | sort -u | xargs)" = "0 1 3" ] || fail "the exit codes are not 0, 1 and 3 where messages are written"
+sixty alike_told refused " where messages are written"
 awk '{ written += $1; none_due += $2 } END { exit !(written > 50 && none_due > 50) }' messages || fail "few messages are due, or not due"
 alike_told behind.pcap /dev/full unlimited
 echo "kawsarpa: /dev/full: No space left on device" | diff - bursts.stderr >&2 || fail "not the full disk alone is told, with --icmp"
