@@ -2,7 +2,6 @@
 #![tactic(auto)]
 
 ghost use Rattle.std.specs.Prelude.{◌≡◌, cond, ◌/◌, ◌%◌, ◌≤◌, eqb};
-ghost use Rattle.rules.specs.Octets.{octet};
 ghost use Rattle.rules.specs.Assigned.{downlink};
 ghost use Rattle.rules.specs.Args.{first_octet, args_octets, args_at, with_args};
 ghost use Rattle.rules.specs.Gtpu.{flow_octet};
@@ -60,52 +59,31 @@ impl Args {
         Args::new(flow, in_downlink(direction, bit), teid)
     }
 
-    pub fn from_octets(octets: [u8; 5]) -> Args
-        ensures { value result ≡ args_at octets 0 }
-    {
-        Args { octets }
-    }
-
     // From bit `start` on, at any start: past the end of a SID there are zeros.
     pub fn from_sid(sid: [u8; 16], start: u8) -> Args
         ensures { value result ≡ args_at sid start }
     {
-        let at = octet_of(start);
         Args {
-            octets: [
-                octet_at(&sid, at),
-                octet_at(&sid, at + 1),
-                octet_at(&sid, at + 2),
-                octet_at(&sid, at + 3),
-                octet_at(&sid, at + 4),
-            ],
+            octets: octets::window(&sid, octet_of(start)),
         }
     }
 
     pub fn qfi(self) -> u8
         ensures { result ≡ (value self).qfi }
     {
-        let octets = self.octets;
-        octets[0] / Args::QFI_PLACE % Args::QFI_COUNT
+        self.octets[0] / Args::QFI_PLACE % Args::QFI_COUNT
     }
 
     pub fn reflective(self) -> u8
         ensures { result ≡ (value self).reflective }
     {
-        let octets = self.octets;
-        octets[0] / Args::REFLECTIVE_PLACE % Args::REFLECTIVE_COUNT
+        self.octets[0] / Args::REFLECTIVE_PLACE % Args::REFLECTIVE_COUNT
     }
 
     pub fn teid(self) -> [u8; 4]
         ensures { result ≡ (value self).teid }
     {
-        let octets = self.octets;
-        [
-            octets[Args::TEID_AT],
-            octets[Args::TEID_AT + 1],
-            octets[Args::TEID_AT + 2],
-            octets[Args::TEID_AT + 3],
-        ]
+        octets::array(&self.octets, Args::TEID_AT)
     }
 
     // As they are sent; U may have come as 1.
@@ -134,14 +112,8 @@ impl Args {
         requires { start ≤ 88 }
         ensures { result ≡ with_args sid start (value self) }
     {
-        let at = octet_of(start);
-        let octets = self.octets();
         let mut out = sid;
-        out[at] = octets[0];
-        out[at + 1] = octets[1];
-        out[at + 2] = octets[2];
-        out[at + 3] = octets[3];
-        out[at + 4] = octets[4];
+        copying::copy_to(&mut out, octet_of(start), &self.octets());
         out
     }
 
@@ -154,6 +126,15 @@ impl Args {
     }
 }
 
+// Any five octets, as they stand in a SID.
+impl From<[u8; 5]> for Args {
+    ghost from_gives = { λ octets result. value result ≡ args_at octets 0 };
+
+    fn from(octets: [u8; 5]) -> Args {
+        Args { octets }
+    }
+}
+
 fn in_downlink(direction: u8, bit: u8) -> u8
     ensures { (result ≡ cond (eqb direction downlink) bit 0) × (result ≤ bit) }
 {
@@ -163,11 +144,5 @@ fn in_downlink(direction: u8, bit: u8) -> u8
 fn octet_of(bit: u8) -> usize
     ensures { result ≡ bit / 8 }
 {
-    (bit / 8) as usize
-}
-
-fn octet_at(s: &[u8], at: usize) -> u8
-    ensures { result ≡ octet s.now at }
-{
-    if at < s.len() { s[at] } else { 0 }
+    usize::from(bit / 8)
 }

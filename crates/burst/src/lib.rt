@@ -2,31 +2,18 @@
 // proofs/.
 #![tactic(auto)]
 
-ghost use Rattle.std.specs.Prelude.{◌≡◌, ◌/◌, ◌≤◌, ◌<◌, length};
+ghost use Rattle.std.specs.Prelude.{◌≡◌, ◌/◌, ◌≤◌, length};
 ghost use Rattle.rules.specs.Answer.{any};
 ghost use Rattle.burst.specs.Burst.{sum, unfit};
 
 // The most packets of a burst.
 const MOST: usize = 32;
 
-// A length of 32 bits as a count of octets.
-pub fn wide(x: u32) -> usize
-    ensures { (result ≡ x) × (result < 4294967296) }
-{
-    x as usize
-}
-
 fn sum_of(lengths: &[u32]) -> usize
     requires { length lengths.now ≤ 32 }
     ensures { result ≡ sum lengths.now }
 {
-    let mut i = 0;
-    let mut n = 0;
-    while i < lengths.len() {
-        n += wide(lengths[i]);
-        i += 1;
-    }
-    n
+    lengths.iter().map(|&n| n as usize).sum()
 }
 
 // Row 19.

@@ -7,11 +7,10 @@ ghost use Rattle.rules.specs.Fault.{broken_before, first_broken, entry_broken};
 ghost use Rattle.conditions.specs.Results.{Front};
 
 use crate::{fields, unless};
-use records::entry;
+use records::{Entry, entry};
 use rules::assigned;
 
-fn behaviour_known(e: &[u8]) -> bool
-    requires { length e.now ≡ 64 }
+fn behaviour_known(e: &Entry) -> bool
     ensures { result ≡ behaviour_known e.now }
 {
     let behaviour = e[entry::BEHAVIOUR];
@@ -21,32 +20,28 @@ fn behaviour_known(e: &[u8]) -> bool
                 | ((behaviour == assigned::END_M_GTP6_E) | (behaviour == assigned::END_M_GTP4_E))))
 }
 
-fn prefix_clear(e: &[u8]) -> bool
-    requires { length e.now ≡ 64 }
+fn prefix_clear(e: &Entry) -> bool
     ensures { result ≡ prefix_clear e.now }
 {
-    prefix::clear16(entry::prefix_of(e), octets::wide(e[entry::PREFIX_LENGTH]))
+    prefix::clear16(entry::prefix_of(e), usize::from(e[entry::PREFIX_LENGTH]))
 }
 
 // D and Di, which name a policy and have a mark.
-fn uses_policy(e: &[u8]) -> bool
-    requires { length e.now ≡ 64 }
+fn uses_policy(e: &Entry) -> bool
     ensures { result ≡ uses_policy e.now }
 {
     let behaviour = e[entry::BEHAVIOUR];
     (behaviour == assigned::END_M_GTP6_D) | (behaviour == assigned::END_M_GTP6_D_DI)
 }
 
-fn policy_exists(e: &[u8], policies: usize) -> bool
-    requires { length e.now ≡ 64 }
+fn policy_exists(e: &Entry, policies: usize) -> bool
     ensures { result ≡ policy_exists policies e.now }
 {
-    !uses_policy(e) | (octets::wide(e[entry::POLICY]) < policies)
+    !uses_policy(e) | (usize::from(e[entry::POLICY]) < policies)
 }
 
 // The condition that octet 9 breaks: 13 where it is reserved, 15 where it is the mark that a UDP checksum of zero is allowed.
-fn octet_9_broken(e: &[u8]) -> u8
-    requires { length e.now ≡ 64 }
+fn octet_9_broken(e: &Entry) -> u8
     ensures { result ≡ broken_before 13 ((uses_policy e.now || reserved_clear (zero_checksum e.now)) ∷ [])
         (first_broken 15 (entry_marks e.now)) }
 {
@@ -56,11 +51,10 @@ fn octet_9_broken(e: &[u8]) -> u8
     unless(marked | (mark == 0), 13, from_15)
 }
 
-fn prefix_before_address(e: &[u8]) -> bool
-    requires { length e.now ≡ 64 }
+fn prefix_before_address(e: &Entry) -> bool
     ensures { result ≡ prefix_before_address e.now }
 {
-    octets::wide(e[entry::PREFIX_LENGTH]) <= 8 * octets::wide(e[entry::P])
+    usize::from(e[entry::PREFIX_LENGTH]) <= 8 * usize::from(e[entry::P])
 }
 
 // The condition that the entry breaks first in a table of so many policies.
@@ -68,6 +62,7 @@ pub fn broken(e: &[u8], policies: usize) -> u8
     requires { length e.now ≡ 64 }
     ensures { result ≡ entry_broken policies e.now }
 {
+    let e: &Entry = e.as_array().unwrap();
     let behaviour = e[entry::BEHAVIOUR];
     let uses_session = !(behaviour == assigned::END);
     let uses_start = behaviour == assigned::END_M_GTP6_E;
@@ -104,8 +99,7 @@ pub fn broken(e: &[u8], policies: usize) -> u8
 }
 
 // The conditions of every behaviour, left at the first that fails.
-fn front_sound(e: &[u8]) -> bool
-    requires { length e.now ≡ 64 }
+fn front_sound(e: &Entry) -> bool
     ensures { result ≡ true → Front e.now }
 {
     let bits = e[entry::PREFIX_LENGTH];
@@ -118,21 +112,19 @@ fn front_sound(e: &[u8]) -> bool
     prefix::words_clear(
         numbers::eight(e, entry::PREFIX),
         numbers::eight(e, entry::PREFIX + 8),
-        octets::wide(bits),
+        usize::from(bits),
     )
 }
 
 // What an E6 entry asks of the start of Args.
-fn start_sound(e: &[u8]) -> bool
-    requires { length e.now ≡ 64 }
+fn start_sound(e: &Entry) -> bool
     ensures { result ≡ start_within (start e.now) && prefix_before_args e.now }
 {
     fields::start_within(e[entry::START]) & (e[entry::PREFIX_LENGTH] <= e[entry::START])
 }
 
 // What an E4 entry asks of its places.
-fn places_sound(e: &[u8]) -> bool
-    requires { length e.now ≡ 64 }
+fn places_sound(e: &Entry) -> bool
     ensures { result ≡ p_within (p e.now) && (q_within (q e.now) && prefix_before_address e.now) }
 {
     (e[entry::P] <= fields::P_MOST) & ((e[entry::Q] <= fields::Q_MOST) & prefix_before_address(e))
@@ -143,6 +135,7 @@ pub fn surely_sound(e: &[u8], policies: usize) -> bool
     requires { length e.now ≡ 64 }
     ensures { result ≡ true → entry_sound policies e.now ≡ true }
 {
+    let e: &Entry = e.as_array().unwrap();
     if !front_sound(e) {
         return false;
     }
@@ -161,7 +154,7 @@ pub fn surely_sound(e: &[u8], policies: usize) -> bool
         if behaviour < assigned::END_M_GTP6_D {
             return false;
         }
-        return (e[entry::ZERO_CHECKSUM] <= 1) & (octets::wide(e[entry::POLICY]) < policies);
+        return (e[entry::ZERO_CHECKSUM] <= 1) & (usize::from(e[entry::POLICY]) < policies);
     }
     if behaviour == assigned::END_M_GTP6_E {
         return (e[entry::ZERO_CHECKSUM] == 0) & start_sound(e);

@@ -5,32 +5,29 @@ ghost use Rattle.rules.specs.Fault.{rule_broken};
 ghost use Rattle.conditions.specs.Results.{Single};
 
 use crate::{fields, unless};
-use records::rule;
+use records::{Rule, rule};
 
-fn prefix_clear(r: &[u8]) -> bool
-    requires { length r.now ≡ 160 }
+fn prefix_clear(r: &Rule) -> bool
     ensures { result ≡ rule_prefix_clear r.now }
 {
-    prefix::clear4(rule::prefix_of(r), octets::wide(r[rule::PREFIX_LENGTH]))
+    prefix::clear4(rule::prefix_of(r), usize::from(r[rule::PREFIX_LENGTH]))
 }
 
-fn sid_prefix_clear(r: &[u8]) -> bool
-    requires { length r.now ≡ 160 }
+fn sid_prefix_clear(r: &Rule) -> bool
     ensures { result ≡ sid_prefix_clear r.now }
 {
     prefix::clear16(
-        records::part(r, rule::SID_PREFIX, records::IPV6_ADDRESS_SIZE),
-        8 * octets::wide(r[rule::P]),
+        records::part::<{ records::IPV6_ADDRESS_SIZE }>(r, rule::SID_PREFIX),
+        8 * usize::from(r[rule::P]),
     )
 }
 
-fn source_prefix_clear(r: &[u8]) -> bool
-    requires { length r.now ≡ 160 }
+fn source_prefix_clear(r: &Rule) -> bool
     ensures { result ≡ source_prefix_clear r.now }
 {
     prefix::clear16(
-        records::part(r, rule::SOURCE_PREFIX, records::IPV6_ADDRESS_SIZE),
-        8 * octets::wide(r[rule::Q]),
+        records::part::<{ records::IPV6_ADDRESS_SIZE }>(r, rule::SOURCE_PREFIX),
+        8 * usize::from(r[rule::Q]),
     )
 }
 
@@ -39,6 +36,7 @@ pub fn broken(r: &[u8]) -> u8
     requires { length r.now ≡ 160 }
     ensures { result ≡ rule_broken r.now }
 {
+    let r: &Rule = r.as_array().unwrap();
     let from_11 = unless(r[rule::RESERVED] == 0, 11, 0);
     let from_10 = unless(r[rule::WAYPOINT_COUNT] <= 7, 10, from_11);
     let from_9 = unless(source_prefix_clear(r), 9, from_10);
@@ -53,8 +51,7 @@ pub fn broken(r: &[u8]) -> u8
 }
 
 // The conditions on single octets, left at the first that fails.
-fn octets_sound(r: &[u8]) -> bool
-    requires { length r.now ≡ 160 }
+fn octets_sound(r: &Rule) -> bool
     ensures { result ≡ true → Single r.now }
 {
     if 32 < r[rule::PREFIX_LENGTH] {
@@ -86,13 +83,14 @@ pub fn surely_sound(r: &[u8]) -> bool
     requires { length r.now ≡ 160 }
     ensures { result ≡ true → rule_sound r.now ≡ true }
 {
+    let r: &Rule = r.as_array().unwrap();
     if !octets_sound(r) {
         return false;
     }
     if !prefix_clear(r) {
         return false;
     }
-    let p = 8 * octets::wide(r[rule::P]);
+    let p = 8 * usize::from(r[rule::P]);
     if !prefix::words_clear(
         numbers::eight(r, rule::SID_PREFIX),
         numbers::eight(r, rule::SID_PREFIX + 8),
@@ -100,7 +98,7 @@ pub fn surely_sound(r: &[u8]) -> bool
     ) {
         return false;
     }
-    let q = 8 * octets::wide(r[rule::Q]);
+    let q = 8 * usize::from(r[rule::Q]);
     prefix::words_clear(
         numbers::eight(r, rule::SOURCE_PREFIX),
         numbers::eight(r, rule::SOURCE_PREFIX + 8),

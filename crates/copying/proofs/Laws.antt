@@ -1,11 +1,11 @@
 -- The laws of `splice`: its length, pieces one after the other, and what is read from it.
-use mathlib.Core.Path.{◌≡◌, refl, sym, ap, ◌∙◌}
+use mathlib.Core.Path.{◌≡◌, sym, ap, ◌∙◌}
 use mathlib.Core.List.{List, [], ◌++◌, append_assoc, append-nil}
 use Prim.Native.Nat.{ℕ, ◌+◌, ◌-◌, ◌≤◌}
 use native.Mathlib.Nat.{add-zero, zero-add, add_assoc, add-sub_of_le, le_refl, add-sub_cancel_left}
 use native.Mathlib.Omega.{arith}
 use lib.ListN.{length, take, drop, length-append, length-drop, take-append-drop, drop_of_length-le}
-use lib.Seq.{take_all, paste, take-length, length-take-le, take_at, drop_at, drop-append-add, drop-drop, take-add}
+use lib.Seq.{take_all, paste, take-length, length-take-le, take_at, drop_at, drop-append-add, drop-drop}
 use lib.Seq.{take-take, take-append-le, drop-append-le}
 use Rattle.rules.specs.Octets.{splice}
 use Rattle.copying.specs.Run.{Run}
@@ -58,26 +58,10 @@ pub chain : (o : List ℕ) (a : ℕ) (x y : List ℕ) {o₁ o₂ : List ℕ} {b 
 chain o a x y {o₁} {o₂} {b} e f n h =
     f ∙ ap (λ (l : List ℕ). splice l b y) e ∙ ap (λ (k : ℕ). splice (splice o a x) k y) n ∙ splice_next o a x y h
 
--- the first d octets of s stand at a, and the n after them are put right after
-pub chain_part : (o s : List ℕ) (a d n : ℕ) {o₁ o₂ : List ℕ} → o₁ ≡ splice o a (take d s) → o₂ ≡ splice o₁ (a + d) (take n (drop d s))
-    → d ≤ length s → a ≤ length o
-    → o₂ ≡ splice o a (take (d + n) s)
-chain_part o s a d n e f h l =
-    chain o a (take d s) (take n (drop d s)) e f (ap (λ (k : ℕ). a + k) (sym (length-take-le d s h))) l
-    ∙ ap (splice o a) (sym (take-add d n s))
-
 -- a copy that has come to its end
 pub paste_splice : (o : List ℕ) (a : ℕ) (x : List ℕ) → paste o a x (length x) ≡ splice o a x
 unfolding splice
 paste_splice o a x = ap (λ (t : List ℕ). take a o ++ t ++ drop (a + length x) o) (take-length x)
-
--- what was put in, as a part
-pub splice_part_read : (o : List ℕ) (a : ℕ) (x : List ℕ) → a ≤ length o → take (length x) (drop a (splice o a x)) ≡ x
-unfolding splice
-splice_part_read o a x h =
-    ap (λ (l : List ℕ). take (length x) (drop a l)) (append_assoc (take a o) x (drop (a + length x) o))
-    ∙ ap (λ (l : List ℕ). take (length x) l) (drop_at (take a o) (x ++ drop (a + length x) o) a (length-take-le a o h))
-    ∙ take_at x (drop (a + length x) o) (length x) refl
 
 -- all of a buffer is replaced
 pub splice-whole : (o x : List ℕ) → length x ≡ length o → splice o 0 x ≡ x

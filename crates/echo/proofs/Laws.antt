@@ -2,92 +2,72 @@
 use mathlib.Core.Path.{◌≡◌, refl, sym, ap, ◌∙◌}
 use mathlib.Core.Bool.{Bool, true, false, ◌||◌}
 use mathlib.Core.List.{List, [], ◌++◌}
-use Prim.Native.Nat.{ℕ, ◌+◌, ◌-◌, ◌*◌, ◌/◌, ◌%◌, ◌≤◌, ◌<◌}
+use Prim.Native.Nat.{ℕ, ◌+◌, ◌-◌, ◌/◌, ◌%◌, ◌≤◌}
 use native.Mathlib.Omega.{arith}
-use native.Mathlib.Decide.{ℕ_discrete}
+use Rattle.std.specs.Int.{from_be_bytes, w32}
 use lib.ListN.{length, take, drop, length-append}
 use lib.Seq.{get_or-drop, drop-drop, drop-append-add, length-take-le}
-use borrow.Author.Tests.{eq-eqb, ne_eqb}
 use Rattle.rules.specs.Octets.{octet, window, number, splice}
-use Rattle.rules.specs.Answer.{differs, any, plain, Sent, Refused, unless, settle}
+use Rattle.rules.specs.Answer.{differs, any, plain, Sent, unless, settle}
 use Rattle.rules.specs.Datagram.{datagram}
 use Rattle.rules.specs.Echo.{bad_echo, echo_rows}
 use Rattle.rules.specs.Plan.{sent_by}
 use Rattle.rules.specs.declared.Datagram.{Datagram}
 use Rattle.rules.specs.declared.Refusal.{Refusal}
-use Rattle.rules.specs.declared.Verdict.TheVariants.{Pass}
+use Rattle.std.specs.Prelude.{Result, Ok, Err}
 use Rattle.rules.proofs.Windows.{window-drop, window-length}
 use Rattle.rules.proofs.Splices.{splice-window}
 use Rattle.rules.proofs.Judging.{any_last, row_yes, row_no, row-none}
 use Rattle.rules.proofs.Plans.{all_head}
 use Rattle.copying.specs.Run.{Run}
 use Rattle.copying.proofs.Laws.{splice_front}
-use Rattle.answer.specs.declared.Answer.{Answer}
-use Rattle.answer.specs.Answered.{answer_of, Answered, Placed}
-use Rattle.answer.proofs.Settling.{answered_as, answered_named, refuse_settles, pass_settles}
+use Rattle.answer.specs.Answered.{Settled, Placed}
+use Rattle.answer.proofs.Settling.{settled_as, settled_named, refuse_settles, pass_settles}
 use Rattle.answer.proofs.Placing.{placed_refused, placed_sent}
 
--- a number is 0 where its octets are
-four_differ : (a b c d n : ℕ) → n ≡ ((a * 256 + b) * 256 + c) * 256 + d
-    → (differs a 0 || (differs b 0 || (differs c 0 || differs d 0))) ≡ differs n 0
-four_differ a b c d n e = go (ℕ_discrete a 0) (ℕ_discrete b 0) (ℕ_discrete c 0) (ℕ_discrete d 0)
-  where
-    go : Dec (a ≡ 0) → Dec (b ≡ 0) → Dec (c ≡ 0) → Dec (d ≡ 0)
-        → (differs a 0 || (differs b 0 || (differs c 0 || differs d 0))) ≡ differs n 0
-    go (no h) bs cs ds = rw (ne_eqb a 0 h, ne_eqb n 0 (λ (z : n ≡ 0). h (omega (arith, z, e))))
-    go (yes i) (no h) cs ds = rw (eq-eqb a 0 i, ne_eqb b 0 h, ne_eqb n 0 (λ (z : n ≡ 0). h (omega (arith, z, e))))
-    go (yes i) (yes j) (no h) ds =
-        rw (eq-eqb a 0 i, eq-eqb b 0 j, ne_eqb c 0 h, ne_eqb n 0 (λ (z : n ≡ 0). h (omega (arith, z, e))))
-    go (yes i) (yes j) (yes k) (no h) =
-        rw (eq-eqb a 0 i, eq-eqb b 0 j, eq-eqb c 0 k, ne_eqb d 0 h, ne_eqb n 0 (λ (z : n ≡ 0). h (omega (arith, z, e))))
-    go (yes i) (yes j) (yes k) (yes l) =
-        rw (eq-eqb a 0 i, eq-eqb b 0 j, eq-eqb c 0 k, eq-eqb d 0 l, eq-eqb n 0 (omega (arith, e, i, j, k, l)))
-
-teid-differs : (s : List ℕ) → (differs (octet s 0) 0 || (differs (octet s 1) 0 || (differs (octet s 2) 0 || differs (octet s 3) 0)))
-    ≡ differs (number s 0 4) 0
+-- four octets as one number
+teid_number : (s : List ℕ) → from_be_bytes w32 s ≡ number s 0 4
 unfolding number
-teid-differs s = four_differ (octet s 0) (octet s 1) (octet s 2) (octet s 3) (number s 0 4) (omega arith)
+teid_number s = omega arith
 
 -- flags and TEID of the datagram that begins at octet `at`
-pub bad_read : (p : List ℕ) (at flags : ℕ) (teid : List ℕ) → flags ≡ octet p (at + 8) → teid ≡ window p (at + 12) 4
-    → (differs (flags / 2 % 2) 1
-    || (differs (octet teid 0) 0 || (differs (octet teid 1) 0 || (differs (octet teid 2) 0 || differs (octet teid 3) 0))))
-    ≡ any (bad_echo (datagram (drop at p)))
+pub bad_read : (p : List ℕ) (at flags n : ℕ) (teid : List ℕ) → flags ≡ octet p (at + 8) → teid ≡ window p (at + 12) 4
+    → n ≡ from_be_bytes w32 teid → (differs (flags / 2 % 2) 1 || differs n 0) ≡ any (bad_echo (datagram (drop at p)))
 unfolding datagram
-bad_read p at flags teid hf ht =
+bad_read p at flags n teid hf ht hn =
     let u = drop at p in
     let f : flags ≡ octet u 8 = hf ∙ sym (get_or-drop at p 8 0) in
     let t : teid ≡ window u 12 4 = ht ∙ sym (window-drop p at 12 4) in
-    ap (λ (b : Bool). differs (flags / 2 % 2) 1 || b) (teid-differs teid ∙ sym (any_last _))
-    ∙ (λ i. differs (f i / 2 % 2) 1 || (differs (number (t i) 0 4) 0 || false))
+    let k : n ≡ number (window u 12 4) 0 4 = hn ∙ teid_number teid ∙ ap (λ (s : List ℕ). number s 0 4) t in
+    ap (λ (b : Bool). differs (flags / 2 % 2) 1 || b) (sym (any_last _)) ∙ (λ i. differs (f i / 2 % 2) 1 || (differs (k i) 0 || false))
 
 -- row 17 applies, and is passed
-module _ (g : Datagram) (x b : List ℕ) (a : Answer) where
-  pub echo-refused : (r : Refusal) → any (bad_echo g) ≡ true → r ≡ plain 17 → (a ≡ answer_of (Refused r)) × (a.size < 65700)
-      → Answered (settle (length b) (unless (echo_rows g) (Sent x))) b a b
+module _ (g : Datagram) (x b : List ℕ) where
+  pub echo-refused : (r : Refusal) → any (bad_echo g) ≡ true → r ≡ plain 17
+      → Settled (settle (length b) (unless (echo_rows g) (Sent x))) b (Err r) b
   unfolding echo_rows
-  echo-refused r e named h =
-      answered_named _ (plain 17) r b a
-      (refuse_settles (length b) (echo_rows g) (Sent x) (plain 17) (sym (row_yes (bad_echo g) (plain 17) [] e))) named h
+  echo-refused r e named =
+      settled_named _ (plain 17) r b
+      (refuse_settles (length b) (echo_rows g) (Sent x) (plain 17) (sym (row_yes (bad_echo g) (plain 17) [] e))) named
 
-  pub echo_passed : (b' : List ℕ) → any (bad_echo g) ≡ false → Answered (settle (length b) (Sent x)) b a b'
-      → Answered (settle (length b) (unless (echo_rows g) (Sent x))) b a b'
+  pub echo_passed : (e : Result ℕ Refusal) (b' : List ℕ) → any (bad_echo g) ≡ false → Settled (settle (length b) (Sent x)) b e b'
+      → Settled (settle (length b) (unless (echo_rows g) (Sent x))) b e b'
   unfolding echo_rows
-  echo_passed b' e h =
-      answered_as _ _ _ _ _
-      (sym (pass_settles (length b) (echo_rows g) (Sent x) (sym (row_no (bad_echo g) (plain 17) [] Pass e row-none)))) h
+  echo_passed e b' q h =
+      settled_as _ _ _ _ _
+      (sym (pass_settles (length b) (echo_rows g) (Sent x) (sym (row_no (bad_echo g) (plain 17) [] (Ok tt) q row-none)))) h
 
 -- a reply is all head: no octet of the packet p follows
-module _ (wanted p : List ℕ) {before : ℕ} {b b' : List ℕ} {a : Answer} (r : Placed before (length p) p b a b') {head : List ℕ} (same : head
-    ≡ wanted) where
+module _ (wanted p : List ℕ) {before : ℕ} {b b' : List ℕ} {e : Result ℕ Refusal} (r : Placed before (length p) p b e b') {head : List ℕ}
+    (same : head ≡ wanted) where
   sent_as : settle (length b) (Sent (sent_by head (length p) p)) ≡ settle (length b) (Sent wanted)
   sent_as = ap (λ (x : List ℕ). settle (length b) (Sent x)) (all_head head p ∙ same)
 
-  pub reply_no_room : (a.number ≡ 0 → ⊥) → length head ≡ before → Answered (settle (length b) (Sent wanted)) b a b'
-  reply_no_room n l = answered_as _ _ _ _ _ sent_as (placed_refused before (length p) p b b' a r head n l)
+  pub reply_no_room : {ρ : Refusal} → e ≡ Err ρ → length head ≡ before → Settled (settle (length b) (Sent wanted)) b e b'
+  reply_no_room {ρ} n l = settled_as _ _ _ _ _ sent_as (placed_refused before (length p) p b b' e r head ρ n l)
 
-  pub reply_sent : a.number ≡ 0 → {b'' : List ℕ} → Run b' 0 before head b'' → Answered (settle (length b) (Sent wanted)) b a b''
-  reply_sent n {b''} w = answered_as _ _ _ _ _ sent_as (placed_sent before (length p) p b b' a r head n b'' w)
+  pub reply_sent : {n : ℕ} → e ≡ Ok n → {b'' : List ℕ} → Run b' 0 before head b'' → Settled (settle (length b) (Sent wanted)) b e b''
+  reply_sent {n} q {b''} w = settled_as _ _ _ _ _ sent_as (placed_sent before (length p) p b b' e r head n q b'' w)
 
 -- octets that a head covers, which is written later
 covers : (o : List ℕ) (a : ℕ) (x head : List ℕ) → a + length x ≤ length head → length head ≤ length o

@@ -11,11 +11,10 @@ ghost use Rattle.rules.specs.Answer.{any, Sent, settle, unless};
 ghost use Rattle.rules.specs.Datagram.{datagram};
 ghost use Rattle.rules.specs.Echo.{is_echo, bad_echo, echo_rows, echo_answer, echo_checksum};
 ghost use Rattle.copying.specs.Run.{Run};
-ghost use Rattle.answer.specs.Answered.{Answered};
+ghost use Rattle.answer.specs.Answered.{Settled};
 ghost use Rattle.echo.specs.Reply.{reply_to6, reply_to4};
 
-use answer::Answer;
-use rules::assigned;
+use rules::{Refusal, assigned};
 
 // Octets of a reply: UDP and GTP-U, and with the IPv6 header or the IPv4 header before them.
 const DATAGRAM: u8 = 22;
@@ -47,18 +46,22 @@ pub fn is_echo(g: rules::Datagram) -> bool
 }
 
 // UDP and GTP-U of a reply to a port, with a UDP checksum and a sequence number.
-fn response(port: u16, checksum: u16, number: u16) -> [u8; 22]
+fn datagram_of(port: u16, checksum: u16, number: u16) -> [u8; 22]
     ensures { result ≡ echo_datagram port checksum number }
 {
+    let [s0, s1] = assigned::GTPU_PORT.to_be_bytes();
+    let [d0, d1] = port.to_be_bytes();
+    let [c0, c1] = checksum.to_be_bytes();
+    let [n0, n1] = number.to_be_bytes();
     [
-        (assigned::GTPU_PORT / 256) as u8,
-        (assigned::GTPU_PORT % 256) as u8,
-        (port / 256) as u8,
-        (port % 256) as u8,
+        s0,
+        s1,
+        d0,
+        d1,
         0,
         DATAGRAM,
-        (checksum / 256) as u8,
-        (checksum % 256) as u8,
+        c0,
+        c1,
         FLAGS,
         assigned::ECHO_RESPONSE,
         0,
@@ -67,8 +70,8 @@ fn response(port: u16, checksum: u16, number: u16) -> [u8; 22]
         0,
         0,
         0,
-        (number / 256) as u8,
-        (number % 256) as u8,
+        n0,
+        n1,
         0,
         0,
         assigned::RECOVERY,
@@ -82,18 +85,18 @@ fn bad_echo(packet: &[u8], at: usize) -> bool
     ensures { result ≡ any (bad_echo (datagram (drop at packet.now))) }
 {
     let flags = octets::octet_or_0(packet, at + FLAGS_AT);
-    let teid = octets::window4(packet, at + TEID_AT);
-    (flags / 2 % 2 != 1) | ((teid[0] != 0) | ((teid[1] != 0) | ((teid[2] != 0) | (teid[3] != 0))))
+    let teid = octets::window::<4>(packet, at + TEID_AT);
+    (flags / 2 % 2 != 1) | (u32::from_be_bytes(teid) != 0)
 }
 
-// The reply to the request whose datagram begins there: to its source port, with its sequence number; over IPv4 the checksum is 0.
-fn response4(packet: &[u8], at: usize) -> [u8; 22]
+// The reply to the request whose datagram begins there: to its source port, with its sequence number. Over IPv4 the checksum is 0.
+fn response(packet: &[u8], at: usize, checksum: u16) -> [u8; 22]
     requires { at < 65536 }
-    ensures { result ≡ echo_answer 0 (drop at packet.now) }
+    ensures { result ≡ echo_answer checksum (drop at packet.now) }
 {
     let port = octets::number_at(packet, at, SOURCE_PORT_AT);
     let number = octets::number_at(packet, at, SEQUENCE_NUMBER_AT);
-    response(port, 0, number)
+    datagram_of(port, checksum, number)
 }
 
 // The same over IPv6, where the checksum is that of the reply, between the packet's addresses exchanged.
@@ -102,13 +105,11 @@ fn response6(packet: &[u8], at: usize) -> [u8; 22]
     ensures { result ≡ echo_answer (echo_checksum (destination packet.now) (source packet.now)
         (drop at packet.now)) (drop at packet.now) }
 {
-    let port = octets::number_at(packet, at, SOURCE_PORT_AT);
-    let number = octets::number_at(packet, at, SEQUENCE_NUMBER_AT);
-    let from = octets::window16(packet, 24);
-    let to = octets::window16(packet, 8);
-    let bare = response(port, 0, number);
+    let from = octets::window::<16>(packet, 24);
+    let to = octets::window::<16>(packet, 8);
+    let bare = response(packet, at, 0);
     let sum = udp::checksum_of(from, to, &bare);
-    response(port, sum, number)
+    response(packet, at, sum)
 }
 
 fn put_reply6(
@@ -150,19 +151,17 @@ fn put_reply4(
 }
 
 // The reply to the Echo Request in an IPv6 packet, whose datagram begins at octet `at`: row 16, then what is sent.
-fn send6(packet: &[u8], at: usize, class: u8, hops: u8, out: &mut [u8]) -> Answer
+fn send6(packet: &[u8], at: usize, class: u8, hops: u8, out: &mut [u8]) -> Result<usize, Refusal>
     requires { at < 65536 }
-    ensures { Answered (settle (length out.old) (Sent (reply_to6 packet.now at class hops)))
+    ensures { Settled (settle (length out.old) (Sent (reply_to6 packet.now at class hops)))
         out.old result out.new }
 {
     let datagram = response6(packet, at);
-    let source = octets::window16(packet, 24);
-    let destination = octets::window16(packet, 8);
-    let a = answer::send(REPLY6, packet, packet.len(), out);
-    if a.number == 0 {
-        put_reply6(out, class, hops, source, destination, datagram);
-    }
-    a
+    let source = octets::window::<16>(packet, 24);
+    let destination = octets::window::<16>(packet, 8);
+    let sent = answer::send(REPLY6, packet, packet.len(), out)?;
+    put_reply6(out, class, hops, source, destination, datagram);
+    Ok(sent)
 }
 
 // The addresses of an IPv4 packet, exchanged, in their place in out.
@@ -177,42 +176,46 @@ fn exchange4(packet: &[u8], out: &mut [u8])
 
 // The same over IPv4. The checksum needs the addresses octet by octet. They are read from the output, where they were copied to: the
 // compiler would share such reads of the packet with the lookup of its destination, and slow that down for every packet.
-fn send4(packet: &[u8], at: usize, tos: u8, ttl: u8, out: &mut [u8]) -> Answer
+fn send4(packet: &[u8], at: usize, tos: u8, ttl: u8, out: &mut [u8]) -> Result<usize, Refusal>
     requires { (at < 65536) × (20 ≤ length packet.now) }
-    ensures { Answered (settle (length out.old) (Sent (reply_to4 packet.now at tos ttl)))
+    ensures { Settled (settle (length out.old) (Sent (reply_to4 packet.now at tos ttl)))
         out.old result out.new }
 {
-    let datagram = response4(packet, at);
-    let a = answer::send(REPLY4, packet, packet.len(), out);
-    if a.number == 0 {
-        exchange4(packet, out);
-        let source = octets::window4(out, 12);
-        let destination = octets::window4(out, 16);
-        put_reply4(out, tos, ttl, source, destination, datagram);
-    }
-    a
+    let datagram = response(packet, at, 0);
+    let sent = answer::send(REPLY4, packet, packet.len(), out)?;
+    exchange4(packet, out);
+    let source = octets::window::<4>(out, 12);
+    let destination = octets::window::<4>(out, 16);
+    put_reply4(out, tos, ttl, source, destination, datagram);
+    Ok(sent)
 }
 
 // An Echo Request in an IPv6 packet, whose datagram begins at octet `at`: rows 17 and 16, and the reply.
-pub fn reply6(packet: &[u8], at: usize, class: u8, hops: u8, out: &mut [u8]) -> Answer
+pub fn reply6(
+    packet: &[u8],
+    at: usize,
+    class: u8,
+    hops: u8,
+    out: &mut [u8],
+) -> Result<usize, Refusal>
     requires { at < 65536 }
-    ensures { Answered (settle (length out.old) (unless (echo_rows (datagram (drop at packet.now)))
+    ensures { Settled (settle (length out.old) (unless (echo_rows (datagram (drop at packet.now)))
         (Sent (reply_to6 packet.now at class hops)))) out.old result out.new }
 {
     if bad_echo(packet, at) {
-        return Answer::refused(rules::Refusal::bad_echo());
+        return Err(Refusal::bad_echo());
     }
     send6(packet, at, class, hops, out)
 }
 
 // The same over IPv4.
-pub fn reply4(packet: &[u8], at: usize, tos: u8, ttl: u8, out: &mut [u8]) -> Answer
+pub fn reply4(packet: &[u8], at: usize, tos: u8, ttl: u8, out: &mut [u8]) -> Result<usize, Refusal>
     requires { (at < 65536) × (20 ≤ length packet.now) }
-    ensures { Answered (settle (length out.old) (unless (echo_rows (datagram (drop at packet.now)))
+    ensures { Settled (settle (length out.old) (unless (echo_rows (datagram (drop at packet.now)))
         (Sent (reply_to4 packet.now at tos ttl)))) out.old result out.new }
 {
     if bad_echo(packet, at) {
-        return Answer::refused(rules::Refusal::bad_echo());
+        return Err(Refusal::bad_echo());
     }
     send4(packet, at, tos, ttl, out)
 }

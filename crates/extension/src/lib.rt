@@ -43,7 +43,7 @@ fn extension_after(gtp: &[u8], at: usize) -> Extension
 {
     let kind = octets::octet_or_0(gtp, at);
     let units = octets::octet_or_0(gtp, at + 1);
-    let next = at + 4 * octets::wide(units);
+    let next = at + 4 * usize::from(units);
     let fields = Fields {
         kind,
         units,
@@ -62,29 +62,31 @@ fn extension_after(gtp: &[u8], at: usize) -> Extension
     Extension::Header(fields)
 }
 
-// A reader at the first place of a message.
-fn new<'a>(gtp: &'a [u8]) -> ExtensionReader<'a>
-    ensures { (result.gtp ≡ gtp.entry) × (result.at ≡ first_place) }
-{
-    ExtensionReader {
-        gtp,
-        at: FIRST_PLACE,
+impl<'a> ExtensionReader<'a> {
+    // At the first place of a message.
+    fn new(gtp: &'a [u8]) -> ExtensionReader<'a>
+        ensures { (result.gtp ≡ gtp.entry) × (result.at ≡ first_place) }
+    {
+        ExtensionReader {
+            gtp,
+            at: FIRST_PLACE,
+        }
     }
-}
 
-// What follows the reader's place.
-fn step<'a>(r: ExtensionReader<'a>) -> Extension
-    requires { r.at < 65536 }
-    ensures { result ≡ extension_after r.entry.gtp.now r.entry.at }
-{
-    extension_after(r.gtp, r.at)
+    // What follows the reader's place.
+    fn step(self) -> Extension
+        requires { self.at < 65536 }
+        ensures { result ≡ extension_after self.entry.gtp.now self.entry.at }
+    {
+        extension_after(self.gtp, self.at)
+    }
 }
 
 // The first extension header of a GTP-U message, with plain parameters.
 pub fn first(gtp: &[u8]) -> Extension
     ensures { result ≡ extension_after gtp.now first_place }
 {
-    step(new(gtp))
+    ExtensionReader::new(gtp).step()
 }
 
 // The fields of every case.

@@ -14,14 +14,13 @@ use Rattle.rules.specs.Srh as Srh
 use Rattle.rules.specs.Srh.{segment}
 use Rattle.rules.specs.Args.{args_at}
 use Rattle.rules.specs.Sound.{direction_known}
-use Rattle.rules.specs.Answer.{Row, given, verdict, length_row}
+use Rattle.rules.specs.Answer.{Row, given, verdict, length_row, Verdict}
 use Rattle.rules.specs.Header.{header, has_srh, bad_chain, bad_srh, WellFormed}
 use Rattle.rules.specs.E6.{e6_carried, e6_checksum, e6_rows, rows_e6}
 use Rattle.rules.specs.E4.{start_behind, e4_carried, e4_rows, rows_e4}
 use Rattle.rules.specs.Plan.{e6_head, e4_head, e6_plan, e4_plan}
 use Rattle.rules.specs.declared.Header.{Header}
-use Rattle.rules.specs.declared.Verdict.{Verdict}
-use Rattle.rules.specs.declared.Verdict.TheVariants.{Pass}
+use Rattle.std.specs.Prelude.{Ok}
 use Rattle.rules.proofs.Windows.{window-length}
 use Rattle.rules.proofs.Rows.{Clear, None, pass_none, read}
 use Rattle.answer.proofs.Calling.{Judged}
@@ -65,7 +64,7 @@ module _ (p : List ℕ) (h : Header) (s : WellFormed p h) (n : ℕ) (hn : n ≡ 
         let k = size-here ∙ sym (length-drop (header p).upperAt p) in
         judged ∙ (λ i. verdict (rows (s.view i) ++ length_row (more + k i) ∷ []))
 
-    clear-here : v ≡ Pass → None (rows h ++ length_row (more + n) ∷ [])
+    clear-here : v ≡ Ok tt → None (rows h ++ length_row (more + n) ∷ [])
     clear-here q = pass_none (rows h ++ length_row (more + n) ∷ []) (sym judged ∙ q)
 
   -- E6

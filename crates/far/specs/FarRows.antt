@@ -6,7 +6,7 @@ use Rattle.rules.specs.Session.{accepts}
 use Rattle.rules.specs.E6.{e6_checksum}
 use Rattle.rules.specs.Plan.{e6_head}
 use Rattle.rules.specs.Header.{has_srh, bad_chain, beyond_held, segments_remain, WellFormed}
-use Rattle.rules.specs.Answer.{Row, row, segments_left_row, upper_layer_row, differs}
+use Rattle.rules.specs.Answer.{Row, row, segments_left_row, upper_layer_row, length_row, differs}
 use Rattle.rules.specs.declared.Header.{Header}
 
 -- row 5: E6 asks for an SRH too
@@ -16,6 +16,10 @@ chain_tests e6 h = cond e6 (not (has_srh h) ∷ bad_chain h) (bad_chain h)
 -- row 7: E6 asks for one segment left in place of none, and tests LE
 abbrev pub left_tests : (e6 : Bool) → Header → List Bool
 left_tests e6 h = cond e6 (differs h.segmentsLeft 1 ∷ beyond_held h ∷ []) (segments_remain h)
+
+-- rows 8 and 15, for a length field
+abbrev pub upper_rows : (e : List ℕ) → Header → (field : ℕ) → List Row
+upper_rows e h field = upper_layer_row (not (accepts (Entry.session e) h.upper) ∷ []) h.upperAt ∷ length_row field ∷ []
 
 -- rows 5, 7 and 8
 unfoldable pub far_rows : (e6 : Bool) (e : List ℕ) → Header → List Row
@@ -32,7 +36,6 @@ pub record FarAsked (e packet : List ℕ) (h : Header) : Type 0 where
 
 -- the writer of a head of some octets, for the length field of what is to be sent
 pub record PutFar (e : List ℕ) (octets length_field room : ℕ) : Type 0 where
-  pub entry : length e ≡ 64
   pub direction : Entry.direction e < 2
   pub fits : length_field < 65536
   pub spacious : octets ≤ room

@@ -1,7 +1,7 @@
 // The far end, where SRv6 becomes GTP-U: E6, End.M.GTP6.E (RFC 9433, 6.5), and E4, End.M.GTP4.E (6.6).
 #![tactic(auto)]
 
-ghost use Rattle.std.specs.Prelude.{◌≡◌, not, [], ◌∷◌, ◌++◌, ◌+◌, ◌≤◌, length};
+ghost use Rattle.std.specs.Prelude.{◌≡◌, true, false, not, [], ◌∷◌, ◌++◌, ◌+◌, ◌≤◌, length};
 ghost use Rattle.rules.specs.Entry as Entry;
 ghost use Rattle.rules.specs.SoundRecord.{SoundE6, SoundE4};
 ghost use Rattle.rules.specs.Header.{has_srh, bad_chain, beyond_held};
@@ -11,12 +11,11 @@ ghost use Rattle.rules.specs.E6.{at_e6};
 ghost use Rattle.rules.specs.E4.{at_e4};
 ghost use Rattle.rules.specs.Plan.{e4_head};
 ghost use Rattle.copying.specs.Run.{Run};
-ghost use Rattle.answer.specs.Answered.{Answered};
-ghost use Rattle.far.specs.FarRows.{chain_tests, left_tests, far_rows, FarAsked, PutFar, e6_head_of};
+ghost use Rattle.answer.specs.Answered.{Settled};
+ghost use Rattle.far.specs.FarRows.{upper_rows, far_rows, FarAsked, PutFar, e6_head_of};
 
-use answer::Answer;
-use records::entry;
-use rules::{Refusal, Verdict, assigned};
+use records::{Entry, entry};
+use rules::{Refusal, assigned};
 
 // The next headers that an entry accepts, by PDU session type (TS 24.501).
 fn accepts_next(session: u8, next: u8) -> bool
@@ -36,31 +35,11 @@ fn bad_chain6(h: rules::Header) -> bool
     !ip::has_srh(h) | ip::bad_chain(h)
 }
 
-// Row 5.
-fn bad_chain(h: rules::Header, e6: bool) -> bool
-    ensures { result ≡ any (chain_tests e6 h) }
-{
-    if e6 {
-        return bad_chain6(h);
-    }
-    ip::bad_chain(h)
-}
-
 // Row 7 at E6: one segment left, and LE (house).
 fn bad_left6(h: rules::Header) -> bool
     ensures { result ≡ any (differs h.segmentsLeft 1 ∷ beyond_held h ∷ []) }
 {
     (h.segmentsLeft != 1) | ip::beyond_held(h)
-}
-
-// Row 7.
-fn bad_left(h: rules::Header, e6: bool) -> bool
-    ensures { result ≡ any (left_tests e6 h) }
-{
-    if e6 {
-        return bad_left6(h);
-    }
-    ip::segments_remain(h)
 }
 
 // Row 8.
@@ -77,34 +56,52 @@ fn too_long(field: usize) -> bool
     65535 < field
 }
 
-// Rows 5, 7, 8 and 15, for the length field of what is to be sent. Both callers say `e6` as a literal, so that nothing is left of it.
-fn judge(e: &[u8], h: rules::Header, e6: bool, field: usize) -> Verdict
-    requires { length e.now ≡ 64 }
-    ensures { result ≡ verdict (far_rows e6 e.now h ++ length_row field ∷ []) }
+// Rows 8 and 15, for the length field of what is to be sent.
+fn judge_upper(e: &Entry, h: rules::Header, field: usize) -> Result<(), Refusal>
+    ensures { result ≡ verdict (upper_rows e.now h field) }
 {
-    if bad_chain(h, e6) {
-        return Verdict::Refuse(Refusal::bad_chain());
-    }
-    if bad_left(h, e6) {
-        return Verdict::Refuse(Refusal::segments_left());
-    }
     if bad_upper(e[entry::SESSION], h) {
-        return Verdict::Refuse(Refusal::upper_layer(h.upperAt));
+        return Err(Refusal::upper_layer(h.upperAt));
     }
     if too_long(field) {
-        return Verdict::Refuse(Refusal::too_long());
+        return Err(Refusal::too_long());
     }
-    Verdict::Pass
+    Ok(())
+}
+
+// Rows 5 and 7, and those behind them.
+fn judge_e6(e: &Entry, h: rules::Header, field: usize) -> Result<(), Refusal>
+    ensures { result ≡ verdict (far_rows true e.now h ++ length_row field ∷ []) }
+{
+    if bad_chain6(h) {
+        return Err(Refusal::bad_chain());
+    }
+    if bad_left6(h) {
+        return Err(Refusal::segments_left());
+    }
+    judge_upper(e, h, field)
+}
+
+fn judge_e4(e: &Entry, h: rules::Header, field: usize) -> Result<(), Refusal>
+    ensures { result ≡ verdict (far_rows false e.now h ++ length_row field ∷ []) }
+{
+    if ip::bad_chain(h) {
+        return Err(Refusal::bad_chain());
+    }
+    if ip::segments_remain(h) {
+        return Err(Refusal::segments_left());
+    }
+    judge_upper(e, h, field)
 }
 
 // The head of E6, 64 octets: from the entry, the arriving SID and SRH[0]. It is made with the checksum 0, from which and the inner packet
 // the checksum is computed, and then with that.
-fn put_e6(e: &[u8], class: u8, sid: [u8; 16], to: [u8; 16], inner: &[u8], out: &mut [u8])
+fn put_e6(e: &Entry, class: u8, sid: [u8; 16], to: [u8; 16], inner: &[u8], out: &mut [u8])
     requires { PutFar e.now 64 (24 + length inner.now) (length out.old) }
     ensures { Run out.old 0 64 (e6_head_of e.now class sid to inner.now) out.new }
 {
     let args = args::Args::from_sid(sid, e[entry::START]);
-    let source = octets::window16(e, entry::SOURCE);
+    let source = octets::window::<16>(e, entry::SOURCE);
     let size = inner.len();
     let payload = (24 + size) as u16;
     let hops = e[entry::HOP_LIMIT];
@@ -126,14 +123,14 @@ fn put_e6(e: &[u8], class: u8, sid: [u8; 16], to: [u8; 16], inner: &[u8], out: &
 }
 
 // The head of E4, 44 octets: addresses and Args stand in the SID and in the source that arrived; the UDP checksum is 0.
-fn put_e4(e: &[u8], class: u8, sid: [u8; 16], from: [u8; 16], size: usize, out: &mut [u8])
+fn put_e4(e: &Entry, class: u8, sid: [u8; 16], from: [u8; 16], size: usize, out: &mut [u8])
     requires { PutFar e.now 44 (44 + size) (length out.old) × (Entry.p e.now ≤ 7) }
     ensures { Run out.old 0 44 (e4_head e.now class sid from size) out.new }
 {
     let p = e[entry::P];
     let args = args::Args::from_sid(sid, 8 * (p + 4));
-    let source = octets::window4(&from, octets::wide(e[entry::Q]));
-    let destination = octets::window4(&sid, octets::wide(p));
+    let source = octets::window::<4>(&from, octets::wide(e[entry::Q]));
+    let destination = octets::window::<4>(&sid, octets::wide(p));
     let total = (44 + size) as u16;
     let port = octets::join16(e[entry::SOURCE_PORT], e[entry::SOURCE_PORT_LOW]);
     ip::put_ipv4(out, class, total, e[entry::HOP_LIMIT], source, destination);
@@ -142,47 +139,35 @@ fn put_e4(e: &[u8], class: u8, sid: [u8; 16], from: [u8; 16], size: usize, out: 
 }
 
 // The packet at an E6 entry.
-pub fn at_e6(e: &[u8], h: rules::Header, packet: &[u8], out: &mut [u8]) -> Answer
+pub fn at_e6(e: &[u8], h: rules::Header, packet: &[u8], out: &mut [u8]) -> Result<usize, Refusal>
     requires { FarAsked e.now packet.now h × SoundE6 e.now }
-    ensures { Answered (settle (length out.old) (at_e6 e.now packet.now)) out.old result
+    ensures { Settled (settle (length out.old) (at_e6 e.now packet.now)) out.old result
         out.new }
 {
+    let e: &Entry = e.as_array().unwrap();
     let at = h.upperAt as usize;
-    let size = octets::saturating_sub(packet.len(), at);
-    let v = judge(e, h, true, 24 + size);
-    match v {
-        Verdict::Refuse(r) => Answer::refused(r),
-        Verdict::Pass => {
-            let sid = octets::window16(packet, 24);
-            let to = octets::window16(packet, 48);
-            let a = answer::send(64, packet, at, out);
-            if a.number == 0 {
-                put_e6(e, h.trafficClass, sid, to, &packet[at..], out);
-            }
-            a
-        }
-    }
+    let size = packet.len().saturating_sub(at);
+    judge_e6(e, h, 24 + size)?;
+    let sid = octets::window::<16>(packet, 24);
+    let to = octets::window::<16>(packet, 48);
+    let sent = answer::send(64, packet, at, out)?;
+    put_e6(e, h.trafficClass, sid, to, &packet[at..], out);
+    Ok(sent)
 }
 
 // The packet at an E4 entry.
-pub fn at_e4(e: &[u8], h: rules::Header, packet: &[u8], out: &mut [u8]) -> Answer
+pub fn at_e4(e: &[u8], h: rules::Header, packet: &[u8], out: &mut [u8]) -> Result<usize, Refusal>
     requires { FarAsked e.now packet.now h × SoundE4 e.now }
-    ensures { Answered (settle (length out.old) (at_e4 e.now packet.now)) out.old result
+    ensures { Settled (settle (length out.old) (at_e4 e.now packet.now)) out.old result
         out.new }
 {
+    let e: &Entry = e.as_array().unwrap();
     let at = h.upperAt as usize;
-    let size = octets::saturating_sub(packet.len(), at);
-    let v = judge(e, h, false, 44 + size);
-    match v {
-        Verdict::Refuse(r) => Answer::refused(r),
-        Verdict::Pass => {
-            let sid = octets::window16(packet, 24);
-            let from = octets::window16(packet, 8);
-            let a = answer::send(44, packet, at, out);
-            if a.number == 0 {
-                put_e4(e, h.trafficClass, sid, from, size, out);
-            }
-            a
-        }
-    }
+    let size = packet.len().saturating_sub(at);
+    judge_e4(e, h, 44 + size)?;
+    let sid = octets::window::<16>(packet, 24);
+    let from = octets::window::<16>(packet, 8);
+    let sent = answer::send(44, packet, at, out)?;
+    put_e4(e, h.trafficClass, sid, from, size, out);
+    Ok(sent)
 }

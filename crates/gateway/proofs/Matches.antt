@@ -28,7 +28,7 @@ use Rattle.rules.proofs.Tables.{found-entry, found-d, found-di}
 use Rattle.rules.proofs.Plans.{d_tail, di_tail}
 use Rattle.rules.specs.SoundRecord.{SoundGtp6D}
 use Rattle.rules.specs.Plan.{tail_at, at_gtp6d}
-use Rattle.rules.specs.declared.Found.TheVariants.{At}
+use Rattle.std.specs.Prelude.{Some}
 use Rattle.answer.proofs.Settling.{refuse_settles, pass_settles}
 
 -- THE FRONT OF A PACKET
@@ -70,7 +70,7 @@ module _ (policies : ℕ) (e : List ℕ) (h : entry_sound policies e ≡ true)
       (λ b. ap (λ (k : ℕ). at_gtp6d (tail_at k) e y p) b ∙ d_tail e y p ∙ sym (at_d_lem t e p b))
       (λ b k. ap (λ (n : ℕ). at_gtp6d n e y p) k ∙ di_tail e y p ∙ sym (at_di_lem t e p b))
 
-pub found_at_gtp6d : (t to : List ℕ) (i : ℕ) → sound t ≡ true → match_entry t to ≡ At i
+pub found_at_gtp6d : (t to : List ℕ) (i : ℕ) → sound t ≡ true → match_entry t to ≡ Some i
     → eqb (Entry.behaviour (entry_at t i)) end ≡ false → eqb (Entry.behaviour (entry_at t i)) end_m_gtp6e ≡ false
     → eqb (Entry.behaviour (entry_at t i)) end_m_gtp4e ≡ false → SoundGtp6D t (entry_at t i)
 found_at_gtp6d t to i s m h₁ h₂ h₃ =

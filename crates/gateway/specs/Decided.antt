@@ -1,5 +1,5 @@
 -- What a call has decided: its answer, the record that matched, and where the upper layer begins.
-use Rattle.std.specs.Prelude.{◌≡◌, true, cond, ◌||◌, List, ℕ, length}
+use Rattle.std.specs.Prelude.{◌≡◌, true, cond, ◌||◌, List, ℕ, length, Option, Some, None}
 use Rattle.rules.specs.Ipv6 as Ipv6
 use Rattle.rules.specs.Ipv4 as Ipv4
 use Rattle.rules.specs.Sound.{sound}
@@ -9,24 +9,22 @@ use Rattle.rules.specs.Header.{header, malformed, WellFormed}
 use Rattle.rules.specs.Header4.{header4, malformed4, bad_header4}
 use Rattle.rules.specs.Calls.{at_found_entry, at_found_rule, translate6, translate4}
 use Rattle.rules.specs.declared.Header.{Header}
-use Rattle.rules.specs.declared.Found.{Found}
-use Rattle.rules.specs.declared.Found.TheVariants.{At, Nothing}
 use Rattle.answer.specs.Answered.{Answered}
 use Rattle.gateway.specs.declared.Decided.{Decided}
 
 -- entry i of a sound table is the match of a packet that passed row 2
 pub record Matched (t : List ℕ) (i : ℕ) (packet : List ℕ) (h : Header) : Type 0 where
   pub sound : sound t ≡ true
-  pub found : match_entry t (Ipv6.destination packet) ≡ At i
+  pub found : match_entry t (Ipv6.destination packet) ≡ Some i
   pub arrived : WellFormed packet h
 
 -- the entry, and the rule, that a packet comes to: none where a row before the match refuses it
-unfoldable pub entry_found : (packet t : List ℕ) → Found
-entry_found packet t = cond (any (malformed (header packet))) Nothing (match_entry t (Ipv6.destination packet))
+unfoldable pub entry_found : (packet t : List ℕ) → Option ℕ
+entry_found packet t = cond (any (malformed (header packet))) None (match_entry t (Ipv6.destination packet))
 
-unfoldable pub rule_found : (packet t : List ℕ) → Found
+unfoldable pub rule_found : (packet t : List ℕ) → Option ℕ
 rule_found packet t =
-    cond (any (malformed4 (header4 packet)) || any (bad_header4 (header4 packet))) Nothing (match_rule t (Ipv4.destination packet))
+    cond (any (malformed4 (header4 packet)) || any (bad_header4 (header4 packet))) None (match_rule t (Ipv4.destination packet))
 
 -- the calls; the buffer that held `before` now holds `after`
 pub record Decides6 (packet t before : List ℕ) (d : Decided) (after : List ℕ) : Type 0 where

@@ -1,21 +1,21 @@
 // The two calls: from a packet and table octets to a packet written, or a refusal.
 #![tactic(auto)]
 
-ghost use Rattle.std.specs.Prelude.{◌≡◌, true, length};
+ghost use Rattle.std.specs.Prelude.{◌≡◌, ◌<◌, true, None, length};
 ghost use Rattle.rules.specs.Octets.{window};
 ghost use Rattle.rules.specs.Table.{entry_at};
 ghost use Rattle.rules.specs.Sound.{sound};
-ghost use Rattle.rules.specs.Answer.{settle};
+ghost use Rattle.rules.specs.Answer.{Refused, settle};
 ghost use Rattle.rules.specs.Header.{WellFormed};
 ghost use Rattle.rules.specs.Header4.{WellFormed4};
 ghost use Rattle.rules.specs.Calls.{at_entry, translate6, translate4};
-ghost use Rattle.answer.specs.Answered.{Answered, Packs};
+ghost use Rattle.answer.specs.Answered.{answer_of, Settled, Answered, Packs};
 ghost use Rattle.gateway.specs.Decided.{Matched, Decides6, Decides4, Matches6, Matches4};
 
 use answer::Answer;
 use near::{d4, gtp6d};
 use records::entry;
-use rules::{Found, Refusal, assigned};
+use rules::{Refusal, assigned};
 
 // An IPv4 header without options.
 const IPV4_SIZE: u16 = 20;
@@ -24,8 +24,23 @@ const IPV4_SIZE: u16 = 20;
 #[derive(Clone, Copy)]
 pub struct Decided {
     pub answer: Answer,
-    pub found: Found,
+    pub found: Option<usize>,
     pub upperAt: u16,
+}
+
+impl Decided {
+    // A refusal before anything matched.
+    fn refused(r: Refusal, upperAt: u16) -> Decided
+        ensures answer { (result.answer ≡ answer_of (Refused r)) × (result.answer.size < 65700) }
+        ensures found { result.found ≡ None }
+        ensures upperAt { result.upperAt ≡ upperAt }
+    {
+        Decided {
+            answer: Answer::refused(r),
+            found: None,
+            upperAt,
+        }
+    }
 }
 
 // The packet at entry i, which matches. D and Di stand last: they are one call.
@@ -36,9 +51,9 @@ fn at_entry(
     front: [u8; 48],
     packet: &[u8],
     out: &mut [u8],
-) -> Answer
+) -> Result<usize, Refusal>
     requires { Matched table.now i packet.now h × (front ≡ window packet.now 0 48) }
-    ensures { Answered (settle (length out.old) (at_entry table.now (entry_at table.now i)
+    ensures { Settled (settle (length out.old) (at_entry table.now (entry_at table.now i)
         packet.now)) out.old result out.new }
 {
     let e = records::entry_at(table, i);
@@ -67,22 +82,15 @@ fn at_match(
     requires { (sound table.now ≡ true) × WellFormed packet.now h × (front ≡ window packet.now 0 48) }
     ensures { Matches6 packet.now table.now h out.old result out.new }
 {
-    let destination = octets::window16(packet, 24);
-    let found = matching::find_entry(table, &destination);
-    match found {
-        Found::Nothing => Decided {
-            answer: Answer::refused(Refusal::no_match()),
-            found: Found::Nothing,
-            upperAt: h.upperAt,
-        },
-        Found::At(i) => {
-            let answer = at_entry(table, i, h, front, packet, out);
-            Decided {
-                answer,
-                found: Found::At(i),
-                upperAt: h.upperAt,
-            }
-        }
+    let destination = octets::window::<16>(packet, 24);
+    let Some(i) = matching::find_entry(table, &destination) else {
+        return Decided::refused(Refusal::no_match(), h.upperAt);
+    };
+    let settled = at_entry(table, i, h, front, packet, out);
+    Decided {
+        answer: Answer::from(settled),
+        found: Some(i),
+        upperAt: h.upperAt,
     }
 }
 
@@ -91,14 +99,10 @@ pub fn translate_ipv6_sound(packet: &[u8], table: &[u8], out: &mut [u8]) -> Deci
     requires { sound table.now ≡ true }
     ensures { Decides6 packet.now table.now out.old result out.new }
 {
-    let front = octets::window48(packet, 0);
+    let front = octets::window::<48>(packet, 0);
     let h = ip::header_of(front, packet.len());
     if ip::is_malformed(h) {
-        return Decided {
-            answer: Answer::refused(Refusal::malformed()),
-            found: Found::Nothing,
-            upperAt: h.upperAt,
-        };
+        return Decided::refused(Refusal::malformed(), h.upperAt);
     }
     at_match(table, h, front, packet, out)
 }
@@ -142,23 +146,16 @@ fn at_match4(table: &[u8], h: rules::Header4, packet: &[u8], out: &mut [u8]) -> 
     requires { (sound table.now ≡ true) × WellFormed4 packet.now h }
     ensures { Matches4 packet.now table.now out.old result out.new }
 {
-    let destination = octets::window4(packet, 16);
-    let found = matching::find_rule(table, &destination);
-    match found {
-        Found::Nothing => Decided {
-            answer: Answer::refused(Refusal::no_match()),
-            found: Found::Nothing,
-            upperAt: IPV4_SIZE,
-        },
-        Found::At(k) => {
-            let r = records::rule_at(table, k);
-            let answer = d4::at_d4(r, h, packet, out);
-            Decided {
-                answer,
-                found: Found::At(k),
-                upperAt: IPV4_SIZE,
-            }
-        }
+    let destination = octets::window::<4>(packet, 16);
+    let Some(k) = matching::find_rule(table, &destination) else {
+        return Decided::refused(Refusal::no_match(), IPV4_SIZE);
+    };
+    let r = records::rule_at(table, k);
+    let settled = d4::at_d4(r, h, packet, out);
+    Decided {
+        answer: Answer::from(settled),
+        found: Some(k),
+        upperAt: IPV4_SIZE,
     }
 }
 
@@ -167,20 +164,12 @@ pub fn translate_ipv4_sound(packet: &[u8], table: &[u8], out: &mut [u8]) -> Deci
     requires { sound table.now ≡ true }
     ensures { Decides4 packet.now table.now out.old result out.new }
 {
-    let h = ip::header4_of(octets::window20(packet, 0), packet.len());
+    let h = ip::header4_of(octets::window::<20>(packet, 0), packet.len());
     if ip::is_malformed4(h) {
-        return Decided {
-            answer: Answer::refused(Refusal::malformed()),
-            found: Found::Nothing,
-            upperAt: IPV4_SIZE,
-        };
+        return Decided::refused(Refusal::malformed(), IPV4_SIZE);
     }
     if ip::bad_header4(h) {
-        return Decided {
-            answer: Answer::refused(Refusal::bad_header4()),
-            found: Found::Nothing,
-            upperAt: IPV4_SIZE,
-        };
+        return Decided::refused(Refusal::bad_header4(), IPV4_SIZE);
     }
     at_match4(table, h, packet, out)
 }

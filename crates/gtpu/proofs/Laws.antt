@@ -3,23 +3,24 @@
 use mathlib.Core.Path.{◌≡◌, sym, ap, ◌∙◌}
 use mathlib.Core.Bool.{Bool, true, cond}
 use mathlib.Core.List.{List, [], ◌∷◌, ◌++◌}
-use Prim.Native.Nat.{ℕ, ◌+◌, ◌-◌, ◌*◌}
+use Prim.Native.Nat.{ℕ, ◌+◌, ◌-◌, ◌*◌, ◌/◌, ◌%◌, ◌<◌}
 use native.Mathlib.Nat.{add-zero}
+use native.Mathlib.Omega.{arith}
 use lib.Dec.{eqb}
 use lib.ListN.{length, drop, length-drop}
 use Rattle.rules.specs.Octets.{octet, window, put16}
 use Rattle.rules.specs.Assigned.{downlink, g_pdu, gtpu_port, pdu_session_container}
-use Rattle.rules.specs.Answer.{Row, any, verdict, first}
+use Rattle.rules.specs.Answer.{Row, any, verdict}
 use Rattle.rules.specs.Args.{Args}
 use Rattle.rules.specs.Gtpu as Gtpu
 use Rattle.rules.specs.Gtpu.{udp, flow_octet, gtpu_flags, datagram_before}
 use Rattle.rules.specs.Datagram.{datagram}
 use Rattle.rules.specs.declared.Refusal.{Refusal}
-use Rattle.rules.specs.declared.Verdict.{Verdict}
-use Rattle.rules.specs.declared.Verdict.TheVariants.{Pass, Refuse}
+use Rattle.std.specs.Prelude.{Err}
+use Rattle.std.specs.Int.{w16, to_be_bytes}
 use Rattle.rules.proofs.Windows.{window-drop}
 use Rattle.rules.proofs.Judging.{row_yes, judged, verdict-append}
-use Rattle.args.proofs.Laws.{window-all}
+use Rattle.octets.proofs.Windows.{window-all}
 use Rattle.extension.specs.Extension.{extension_after, fields_of, first_place}
 use Rattle.gtpu.specs.Reading.{view_of, args_of}
 use Rattle.extension.specs.declared.Fields.{Fields}
@@ -59,35 +60,35 @@ args_read p f at direction teid hf hd ht =
 
 -- a row that answers, where a callee made the answer
 pub row_by : (bs : List Bool) (ρ σ : Refusal) (rs : List Row) → σ ≡ ρ → any bs ≡ true
-    → Refuse σ ≡ verdict (record { tests = bs; refusal = ρ } ∷ rs)
-row_by bs ρ σ rs p e = ap Refuse p ∙ row_yes bs ρ rs e
+    → Err σ ≡ verdict (record { tests = bs; refusal = ρ } ∷ rs)
+row_by bs ρ σ rs p e = ap Err p ∙ row_yes bs ρ rs e
 
 pub ruleset judged-by = (judged, row_by)
 
--- a row that a callee judges alone, before more rows: it refuses, or they decide
-module _ (r : Row) (rs : List Row) (v : Verdict) (judged : v ≡ verdict (r ∷ [])) where
-  alone : verdict (r ∷ rs) ≡ first v (verdict rs)
-  alone = verdict-append (r ∷ []) rs ∙ ap (λ (v : Verdict). first v (verdict rs)) (sym judged)
-
-  pub alone-refused : (ρ : Refusal) → v ≡ Refuse ρ → Refuse ρ ≡ verdict (r ∷ rs)
-  alone-refused ρ e = sym (alone ∙ ap (λ (v : Verdict). first v (verdict rs)) e)
-
-  pub alone_passed : (w : Verdict) → v ≡ Pass → w ≡ verdict rs → w ≡ verdict (r ∷ rs)
-  alone_passed w e p = p ∙ sym (alone ∙ ap (λ (v : Verdict). first v (verdict rs)) e)
-
 -- WRITING
 
--- from the octets of the TEID, one by one
-pub datagram_written : (port direction checksum size flow : ℕ) (teid : List ℕ) (x : Args) → length teid ≡ 4 → teid ≡ x.teid
-    → flow ≡ flow_octet direction x.qfi x.reflective
-    → udp port gtpu_port (24 + size) checksum
-    (gtpu_flags ∷ g_pdu ∷ put16 (8 + size)
-    (octet teid 0 ∷ octet teid 1 ∷ octet teid 2 ∷ octet teid 3
-    ∷ 0 ∷ 0 ∷ 0 ∷ pdu_session_container ∷ 1 ∷ (direction * 16) ∷ flow ∷ 0 ∷ []))
-    ≡ datagram_before port direction checksum x size []
-unfolding window
-datagram_written port direction checksum size flow teid x l t f =
-    let e : window teid 0 4 ≡ x.teid = window-all teid 4 l ∙ t in
-    λ i. udp port gtpu_port (24 + size) checksum
-    (gtpu_flags ∷ g_pdu ∷ put16 (8 + size)
-    (e i ++ (0 ∷ 0 ∷ 0 ∷ pdu_session_container ∷ 1 ∷ (direction * 16) ∷ f i ∷ 0 ∷ [])))
+-- a number of 16 bits, from its two octets
+number_written : (b : List ℕ) (n : ℕ) → b ≡ to_be_bytes w16 n → n < 65536 → (rest : List ℕ) → octet b 0 ∷ octet b 1 ∷ rest ≡ put16 n rest
+number_written b n e l rest =
+    let high : n / 256 % 256 ≡ n / 256 = omega arith in
+    ap (λ (b : List ℕ). octet b 0 ∷ octet b 1 ∷ rest) e ∙ (λ i. high i ∷ (n % 256) ∷ rest)
+
+-- from the octets of each number and of the TEID, one by one
+module _ (port direction checksum size flow : ℕ) (from to all sum message teid : List ℕ) (x : Args)
+    (fp : from ≡ to_be_bytes w16 port) (lp : port < 65536) (ft : to ≡ to_be_bytes w16 gtpu_port)
+    (fa : all ≡ to_be_bytes w16 (24 + size)) (la : 24 + size < 65536) (fc : sum ≡ to_be_bytes w16 checksum) (lc : checksum < 65536)
+    (fm : message ≡ to_be_bytes w16 (8 + size)) (l : length teid ≡ 4) (t : teid ≡ x.teid)
+    (f : flow ≡ flow_octet direction x.qfi x.reflective) where
+  pub datagram_written : octet from 0 ∷ octet from 1 ∷ octet to 0 ∷ octet to 1 ∷ octet all 0 ∷ octet all 1 ∷ octet sum 0 ∷ octet sum 1
+      ∷ gtpu_flags ∷ g_pdu ∷ octet message 0 ∷ octet message 1 ∷ octet teid 0 ∷ octet teid 1 ∷ octet teid 2 ∷ octet teid 3
+      ∷ 0 ∷ 0 ∷ 0 ∷ pdu_session_container ∷ 1 ∷ (direction * 16) ∷ flow ∷ 0 ∷ []
+      ≡ datagram_before port direction checksum x size []
+  unfolding window
+  datagram_written =
+      let e : window teid 0 4 ≡ x.teid = window-all teid 4 l ∙ t in
+      number_written from port fp lp _
+      ∙ ap (put16 port) (number_written to gtpu_port ft (omega arith) _
+      ∙ ap (put16 gtpu_port) (number_written all (24 + size) fa la _
+      ∙ ap (put16 (24 + size)) (number_written sum checksum fc lc _
+      ∙ ap (λ (r : List ℕ). put16 checksum (gtpu_flags ∷ g_pdu ∷ r)) (number_written message (8 + size) fm (omega arith) _
+      ∙ (λ i. put16 (8 + size) (e i ++ (0 ∷ 0 ∷ 0 ∷ pdu_session_container ∷ 1 ∷ (direction * 16) ∷ f i ∷ 0 ∷ [])))))))

@@ -11,7 +11,7 @@ ghost use Rattle.rules.specs.Gtpu as Gtpu;
 ghost use Rattle.args.specs.Value.{value};
 ghost use Rattle.gtpu.specs.Reading.{view_of, args_of};
 
-use rules::assigned;
+use rules::{Refusal, assigned};
 
 // The size of a UDP header.
 const UDP_SIZE: usize = 8;
@@ -35,12 +35,7 @@ const UNITS: u8 = 1;
 fn teid_of(front: [u8; 24]) -> [u8; 4]
     ensures { result ≡ Gtpu.teid front }
 {
-    [
-        front[TEID_AT],
-        front[TEID_AT + 1],
-        front[TEID_AT + 2],
-        front[TEID_AT + 3],
-    ]
+    octets::array(&front, TEID_AT)
 }
 
 // The PDU type is the high half of the first content octet of a container (TS 38.415, 5.5.2).
@@ -54,7 +49,7 @@ fn pdu_type(content: u8) -> u8
 fn extension_end(units: u8) -> usize
     ensures { (result ≡ 20 + 4 * units) × (result < 1041) }
 {
-    EXTENSION_AT + 4 * (units as usize)
+    EXTENSION_AT + 4 * usize::from(units)
 }
 
 // The view of a datagram of `size` octets that begins with `front`, with the fields of its first extension header, the first octet of the
@@ -87,10 +82,7 @@ fn datagram_of(
 fn within(packet: &[u8], at: usize) -> usize
     ensures { (result ≤ length packet.now) × (drop result packet.now ≡ drop at packet.now) }
 {
-    if packet.len() < at {
-        return packet.len();
-    }
-    at
+    at.min(packet.len())
 }
 
 // The view of the datagram that begins at octet `at` of a packet; all that it has of an extension header is found by the reader's step.
@@ -98,8 +90,8 @@ pub fn datagram_at(packet: &[u8], at: usize) -> rules::Datagram
     requires { at < 65536 }
     ensures { result ≡ datagram (drop at packet.now) }
 {
-    let front = octets::window24(packet, at);
-    let size = octets::saturating_sub(packet.len(), at);
+    let front = octets::window::<24>(packet, at);
+    let size = packet.len().saturating_sub(at);
     let start = within(packet, at + UDP_SIZE);
     let gtp = &packet[start..];
     let fields = extension::fields_of(extension::first(gtp));
@@ -120,7 +112,7 @@ pub fn not_gtpu(protocol: u8, g: rules::Datagram) -> bool
 pub fn bad_udp(g: rules::Datagram) -> bool
     ensures { result ≡ any (bad_udp g) }
 {
-    (g.size < UDP_SIZE) | (g.length as usize != g.size)
+    (g.size < UDP_SIZE) | (usize::from(g.length) != g.size)
 }
 
 // Row 10: version 1 and PT are the high four bits; with any of E, S and PN, the low three, four octets more are there.
@@ -129,7 +121,7 @@ pub fn bad_gtpu(g: rules::Datagram) -> bool
 {
     (g.size < MESSAGE_AT)
         | ((g.flags / 16 != 3)
-            | ((MESSAGE_AT + g.messageLength as usize != g.size)
+            | ((MESSAGE_AT + usize::from(g.messageLength) != g.size)
                 | ((0 < g.flags % 8) & (g.size < EXTENSION_AT))))
 }
 
@@ -179,59 +171,59 @@ fn too_long(field: usize) -> bool
 }
 
 // The verdict of row 9.
-pub fn judge_udp(g: rules::Datagram) -> rules::Verdict
+pub fn judge_udp(g: rules::Datagram) -> Result<(), Refusal>
     ensures { result ≡ verdict (row (bad_udp g) 9 ∷ []) }
 {
     if bad_udp(g) {
-        return rules::Verdict::Refuse(rules::Refusal::bad_udp());
+        return Err(Refusal::bad_udp());
     }
-    rules::Verdict::Pass
+    Ok(())
 }
 
 // The verdict of row 10.
-pub fn judge_gtpu(g: rules::Datagram) -> rules::Verdict
+pub fn judge_gtpu(g: rules::Datagram) -> Result<(), Refusal>
     ensures { result ≡ verdict (row (bad_gtpu g) 10 ∷ []) }
 {
     if bad_gtpu(g) {
-        return rules::Verdict::Refuse(rules::Refusal::bad_gtpu());
+        return Err(Refusal::bad_gtpu());
     }
-    rules::Verdict::Pass
+    Ok(())
 }
 
 // The verdict of rows 11 to 13.
-pub fn judge_gpdu(direction: u8, g: rules::Datagram) -> rules::Verdict
+pub fn judge_gpdu(direction: u8, g: rules::Datagram) -> Result<(), Refusal>
     ensures { result ≡ verdict (g_pdu_rows direction g) }
 {
     if not_gpdu(g) {
-        return rules::Verdict::Refuse(rules::Refusal::not_gpdu());
+        return Err(Refusal::not_gpdu());
     }
     if bad_extensions(g) {
-        return rules::Verdict::Refuse(rules::Refusal::bad_extensions());
+        return Err(Refusal::bad_extensions());
     }
     if bad_container(direction, g) {
-        return rules::Verdict::Refuse(rules::Refusal::bad_container());
+        return Err(Refusal::bad_container());
     }
-    rules::Verdict::Pass
+    Ok(())
 }
 
 // The verdict of rows 14 and 15; `field` is the length field of what is to be sent.
-pub fn judge_inner(session: u8, size: usize, first: u8, field: usize) -> rules::Verdict
+pub fn judge_inner(session: u8, size: usize, first: u8, field: usize) -> Result<(), Refusal>
     ensures { result ≡ verdict (inner_rows session size first field) }
 {
     if bad_inner(session, size, first) {
-        return rules::Verdict::Refuse(rules::Refusal::bad_inner());
+        return Err(Refusal::bad_inner());
     }
     if too_long(field) {
-        return rules::Verdict::Refuse(rules::Refusal::too_long());
+        return Err(Refusal::too_long());
     }
-    rules::Verdict::Pass
+    Ok(())
 }
 
 // What a G-PDU carries beside its inner packet, of the datagram that begins at octet `at` of a packet.
 pub fn args_at(packet: &[u8], at: usize) -> args::Args
     ensures { value result ≡ args_of (drop at packet.now) }
 {
-    let front = octets::window24(packet, at);
+    let front = octets::window::<24>(packet, at);
     let direction = pdu_type(front[EXTENSION_AT + 1]);
     args::Args::from_container(direction, front[EXTENSION_AT + 2], teid_of(front))
 }
@@ -248,22 +240,25 @@ pub fn head_of(port: u16, direction: u8, checksum: u16, args: args::Args, size: 
     requires { (24 + size < 65536) × (direction < 16) }
     ensures { result ≡ Gtpu.datagram_before port direction checksum (value args) size [] }
 {
-    let all = 24 + size;
-    let message = 8 + size;
+    let from = port.to_be_bytes();
+    let to = assigned::GTPU_PORT.to_be_bytes();
+    let all = ((24 + size) as u16).to_be_bytes();
+    let sum = checksum.to_be_bytes();
+    let message = ((8 + size) as u16).to_be_bytes();
     let teid = args.teid();
     [
-        (port / 256) as u8,
-        (port % 256) as u8,
-        (assigned::GTPU_PORT / 256) as u8,
-        (assigned::GTPU_PORT % 256) as u8,
-        (all / 256) as u8,
-        (all % 256) as u8,
-        (checksum / 256) as u8,
-        (checksum % 256) as u8,
+        from[0],
+        from[1],
+        to[0],
+        to[1],
+        all[0],
+        all[1],
+        sum[0],
+        sum[1],
         FLAGS,
         assigned::G_PDU,
-        (message / 256) as u8,
-        (message % 256) as u8,
+        message[0],
+        message[1],
         teid[0],
         teid[1],
         teid[2],

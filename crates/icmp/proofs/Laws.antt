@@ -19,9 +19,9 @@ use Rattle.rules.specs.declared.Refusal.{Refusal}
 use Rattle.rules.proofs.UdpChecksums.{sum_with, pseudo_fold}
 use Rattle.rules.proofs.Plans.{ipv6_before}
 use Rattle.copying.specs.Run.{Run}
-use Rattle.answer.specs.declared.Answer.{Answer}
-use Rattle.answer.specs.Answered.{Answered, Placed}
-use Rattle.answer.proofs.Settling.{answered_as}
+use Rattle.std.specs.Prelude.{Result, Ok, Err}
+use Rattle.answer.specs.Answered.{Settled, Placed}
+use Rattle.answer.proofs.Settling.{settled_as}
 use Rattle.answer.proofs.Placing.{placed_refused, placed_sent}
 use Rattle.icmp.specs.Icmp.{quoted, icmp, checksum_of, icmp_packet}
 
@@ -66,12 +66,12 @@ whole e r p =
     ∙ ipv6_before 0 (8 + length (quoted p)) icmpv6_protocol (Entry.hop_limit e) s d (icmp r k (quoted p))
 
 -- sent behind its headers, or refused for the room
-module _ (wanted q head : List ℕ) (same : sent_by head 0 q ≡ wanted) {b b' : List ℕ} {a : Answer} (r : Placed 48 0 q b a b') where
+module _ (wanted q head : List ℕ) (same : sent_by head 0 q ≡ wanted) {b b' : List ℕ} {e : Result ℕ Refusal} (r : Placed 48 0 q b e b') where
   sent_as : settle (length b) (Sent (sent_by head 0 q)) ≡ settle (length b) (Sent wanted)
   sent_as = ap (λ (x : List ℕ). settle (length b) (Sent x)) same
 
-  pub message_no_room : (a.number ≡ 0 → ⊥) → length head ≡ 48 → Answered (settle (length b) (Sent wanted)) b a b'
-  message_no_room n l = answered_as _ _ _ _ _ sent_as (placed_refused 48 0 q b b' a r head n l)
+  pub message_no_room : {ρ : Refusal} → e ≡ Err ρ → length head ≡ 48 → Settled (settle (length b) (Sent wanted)) b e b'
+  message_no_room {ρ} n l = settled_as _ _ _ _ _ sent_as (placed_refused 48 0 q b b' e r head ρ n l)
 
-  pub message-sent : a.number ≡ 0 → {b'' : List ℕ} → Run b' 0 48 head b'' → Answered (settle (length b) (Sent wanted)) b a b''
-  message-sent n {b''} w = answered_as _ _ _ _ _ sent_as (placed_sent 48 0 q b b' a r head n b'' w)
+  pub message-sent : {n : ℕ} → e ≡ Ok n → {b'' : List ℕ} → Run b' 0 48 head b'' → Settled (settle (length b) (Sent wanted)) b e b''
+  message-sent {n} o {b''} w = settled_as _ _ _ _ _ sent_as (placed_sent 48 0 q b b' e r head n o b'' w)

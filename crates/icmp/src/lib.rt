@@ -5,10 +5,9 @@ ghost use Rattle.std.specs.Prelude.{◌≡◌, [], ◌++◌, ◌+◌, ◌-◌, �
 ghost use Rattle.rules.specs.Ipv6.{ipv6};
 ghost use Rattle.rules.specs.Answer.{Sent, settle};
 ghost use Rattle.copying.specs.Run.{Run};
-ghost use Rattle.answer.specs.Answered.{Answered};
+ghost use Rattle.answer.specs.Answered.{Settled};
 ghost use Rattle.icmp.specs.Icmp.{icmp, checksum_of, icmp_packet};
 
-use answer::Answer;
 use records::entry;
 use rules::{Refusal, assigned};
 
@@ -27,27 +26,16 @@ const ICMPV6: u64 = 58;
 fn quoted_size(size: usize) -> usize
     ensures { (result ≡ size - (size - 1232)) × (result ≤ 1232) }
 {
-    if size < QUOTED_AT_MOST {
-        size
-    } else {
-        QUOTED_AT_MOST
-    }
+    size.min(QUOTED_AT_MOST)
 }
 
 // Type, code, checksum, and the pointer in 32 bits, which in Time Exceeded is 0.
 fn header_with(r: Refusal, checksum: u16) -> [u8; 8]
     ensures { result ≡ icmp r checksum [] }
 {
-    [
-        r.icmpType,
-        r.icmpCode,
-        (checksum / 256) as u8,
-        (checksum % 256) as u8,
-        0,
-        0,
-        (r.pointer / 256) as u8,
-        (r.pointer % 256) as u8,
-    ]
+    let [c0, c1] = checksum.to_be_bytes();
+    let [p0, p1] = r.pointer.to_be_bytes();
+    [r.icmpType, r.icmpCode, c0, c1, 0, 0, p0, p1]
 }
 
 // What is sent for words whose sum this is: a computed 0 stays 0.
@@ -106,26 +94,24 @@ fn put_headers(
 }
 
 // The message about a packet that was refused with r at the entry e: row 16, then what is sent.
-pub fn send(e: &[u8], r: Refusal, packet: &[u8], out: &mut [u8]) -> Answer
-    ensures { Answered (settle (length out.old) (Sent (icmp_packet e.now r packet.now)))
+pub fn send(e: &[u8], r: Refusal, packet: &[u8], out: &mut [u8]) -> Result<usize, Refusal>
+    ensures { Settled (settle (length out.old) (Sent (icmp_packet e.now r packet.now)))
         out.old result out.new }
 {
     let n = quoted_size(packet.len());
     let quoted = &packet[0..n];
     let hops = octets::octet_or_0(e, entry::HOP_LIMIT);
-    let source = octets::window16(e, entry::SOURCE);
-    let destination = octets::window16(packet, 8);
+    let source = octets::window::<16>(e, entry::SOURCE);
+    let destination = octets::window::<16>(packet, 8);
     let header = header_for(r, source, destination, quoted);
-    let a = answer::send(HEADERS_SIZE, quoted, 0, out);
-    if a.number == 0 {
-        put_headers(
-            out,
-            (ICMPV6_SIZE + n) as u16,
-            hops,
-            source,
-            destination,
-            header,
-        );
-    }
-    a
+    let sent = answer::send(HEADERS_SIZE, quoted, 0, out)?;
+    put_headers(
+        out,
+        (ICMPV6_SIZE + n) as u16,
+        hops,
+        source,
+        destination,
+        header,
+    );
+    Ok(sent)
 }

@@ -2,16 +2,11 @@
 use mathlib.Core.Path.{◌≡◌, ◌∙◌}
 use mathlib.Core.List.{List, [], ◌++◌, append-nil}
 use Prim.Native.Nat.{ℕ, ◌-◌}
-use native.Mathlib.Omega.{arith}
 use lib.ListN.{length}
-use lib.Seq.{take_all}
 use Rattle.rules.specs.Octets.{window, put16}
 use Rattle.rules.specs.Checksum.{ones_sum}
 use Rattle.rules.specs.Ipv4.{ipv4, ipv4_front}
-use Rattle.rules.proofs.Windows.{window-take}
-
-pub window-all : (s : List ℕ) (n : ℕ) → length s ≡ n → window s 0 n ≡ s
-window-all s n h = window-take s n (omega arith) ∙ take_all n s (omega arith)
+use Rattle.octets.proofs.Windows.{window-all}
 
 -- from the sum of the header with the checksum 0
 pub ipv4_written : (tos total ttl sum : ℕ) (s d : List ℕ) → length s ≡ 4 → length d ≡ 4

@@ -17,7 +17,7 @@ fn upper_at(next: u8, units: u8) -> u16
     ensures { result ≡ cond (eqb next routing_header) (48 + 8 * units) 40 }
 {
     if next == rules::assigned::ROUTING_HEADER {
-        48 + 8 * (units as u16)
+        48 + 8 * u16::from(units)
     } else {
         40
     }
@@ -65,7 +65,7 @@ pub fn header_of(front: [u8; 48], size: usize) -> rules::Header
 pub fn is_malformed(h: rules::Header) -> bool
     ensures { result ≡ any (malformed h) }
 {
-    (h.size < 40) | ((h.version != 6) | (40 + h.payloadLength as usize != h.size))
+    (h.size < 40) | ((h.version != 6) | (40 + usize::from(h.payloadLength) != h.size))
 }
 
 pub fn has_srh(h: rules::Header) -> bool
@@ -80,7 +80,7 @@ fn bad_srh(h: rules::Header) -> bool
 {
     (h.size < 48)
         | ((h.routingType != rules::assigned::SEGMENT_ROUTING)
-            | ((h.size < h.upperAt as usize)
+            | ((h.size < usize::from(h.upperAt))
                 | ((h.upper == rules::assigned::HOP_BY_HOP)
                     | ((h.upper == rules::assigned::FRAGMENT_HEADER)
                         | ((h.upper == rules::assigned::DESTINATION_OPTIONS)
@@ -126,16 +126,8 @@ pub fn put_ipv6(
     requires { 40 ≤ length out.old }
     ensures { Run out.old 0 40 (ipv6 class payload next hops source destination []) out.new }
 {
-    let head = [
-        0x60 + class / 16,
-        class % 16 * 16,
-        0,
-        0,
-        (payload / 256) as u8,
-        (payload % 256) as u8,
-        next,
-        hops,
-    ];
+    let [hi, lo] = payload.to_be_bytes();
+    let head = [0x60 + class / 16, class % 16 * 16, 0, 0, hi, lo, next, hops];
     copying::copy_to(out, 0, &head);
     copying::copy_to(out, 8, &source);
     copying::copy_to(out, 24, &destination);
@@ -150,33 +142,15 @@ fn folded(total: u32) -> u16
     (once % 65536 + once / 65536) as u16
 }
 
-// The sum of five 16-bit words.
-fn five(a: u8, b: u8, c: u8, d: u8, e: u8, f: u8, g: u8, h: u8, i: u8, j: u8) -> u32
-    ensures { (result ≡ a * 256 + b + (c * 256 + d + (e * 256 + f + (g * 256 + h + (i * 256 + j))))) × (result < 327680)
-        × (a < 256) × (b < 256) × (c < 256) × (d < 256) × (e < 256) × (f < 256) × (g < 256) × (h < 256) × (i < 256) × (j < 256) }
-{
-    (a as u32) * 256
-        + (b as u32)
-        + ((c as u32) * 256
-            + (d as u32)
-            + ((e as u32) * 256
-                + (f as u32)
-                + ((g as u32) * 256 + (h as u32) + ((i as u32) * 256 + (j as u32)))))
-}
-
 // The ones' complement sum of an IPv4 header without options.
 fn header_sum(front: [u8; 20]) -> u16
     ensures { result ≡ ones_sum (window front 0 20) }
 {
-    let high = five(
-        front[0], front[1], front[2], front[3], front[4], front[5], front[6], front[7], front[8],
-        front[9],
-    );
-    let low = five(
-        front[10], front[11], front[12], front[13], front[14], front[15], front[16], front[17],
-        front[18], front[19],
-    );
-    folded(high + low)
+    let mut total = 0;
+    for i in 0..10 {
+        total += u32::from(octets::join16(front[2 * i], front[2 * i + 1]));
+    }
+    folded(total)
 }
 
 // The numbers of an IPv4 packet of `size` octets that begins with `front`.
@@ -199,7 +173,7 @@ pub fn header4_of(front: [u8; 20], size: usize) -> rules::Header4
 pub fn is_malformed4(h: rules::Header4) -> bool
     ensures { result ≡ any (malformed4 h) }
 {
-    (h.size < 20) | ((h.version != 4) | (h.totalLength as usize != h.size))
+    (h.size < 20) | ((h.version != 4) | (usize::from(h.totalLength) != h.size))
 }
 
 // Row 3.
@@ -215,8 +189,7 @@ pub fn put_ipv4(out: &mut [u8], tos: u8, total: u16, ttl: u8, source: [u8; 4], d
     requires { 20 ≤ length out.old }
     ensures { Run out.old 0 20 (ipv4 tos total ttl source destination []) out.new }
 {
-    let hi = (total / 256) as u8;
-    let lo = (total % 256) as u8;
+    let [hi, lo] = total.to_be_bytes();
     let blank = [
         0x45,
         tos,
@@ -239,7 +212,7 @@ pub fn put_ipv4(out: &mut [u8], tos: u8, total: u16, ttl: u8, source: [u8; 4], d
         destination[2],
         destination[3],
     ];
-    let sum = 65535 - header_sum(blank);
+    let [sum_hi, sum_lo] = (65535 - header_sum(blank)).to_be_bytes();
     let head = [
         0x45,
         tos,
@@ -251,8 +224,8 @@ pub fn put_ipv4(out: &mut [u8], tos: u8, total: u16, ttl: u8, source: [u8; 4], d
         0,
         ttl,
         rules::assigned::UDP_PROTOCOL,
-        (sum / 256) as u8,
-        (sum % 256) as u8,
+        sum_hi,
+        sum_lo,
     ];
     copying::copy_to(out, 0, &head);
     copying::copy_to(out, 12, &source);

@@ -13,6 +13,8 @@ ghost use Rattle.sequence.specs.Sequence.{sequence6, sequence4};
 ghost use Rattle.pair.specs.Mismatch.{mismatch6, mismatch4, mismatch_waypoint};
 ghost use Rattle.report.specs.Report.{icmp6};
 
+use serving::{Ipv4, Ipv6};
+
 // The IPv6 call.
 #[unsafe(no_mangle)]
 pub extern "C" fn kawsarpa_translate_ipv6(packet: &[u8], table: &[u8], out: &mut [u8]) -> u64
@@ -65,7 +67,7 @@ pub extern "C" fn kawsarpa_burst_ipv6(
         × (answers.new ≡ answered v6 lengths.now packets.now table.now (length out.old)
         answers.old) }
 {
-    serving::burst_ipv6(packets, lengths, table, out, answers)
+    serving::burst::<Ipv6>(packets, lengths, table, out, answers)
 }
 
 #[unsafe(no_mangle)]
@@ -83,7 +85,7 @@ pub extern "C" fn kawsarpa_burst_ipv4(
         × (answers.new ≡ answered v4 lengths.now packets.now table.now (length out.old)
         answers.old) }
 {
-    serving::burst_ipv4(packets, lengths, table, out, answers)
+    serving::burst::<Ipv4>(packets, lengths, table, out, answers)
 }
 
 // The first condition of soundness that a table breaks; 0 exactly when the table is sound.

@@ -2,13 +2,12 @@
 use Rattle.std.proofs.Common.{◌≡◌, ℕ, suc, ◌+◌, ◌<◌, Bool, true, false, cond, not, ◌&&◌, eqb, ◌⊎◌, List, [], ◌∷◌, length, sym, refl, ap}
 use Rattle.std.proofs.Common.{◌∙◌, subst, inl, inr, ⊎_elim, true≢false, arith, eq-eqb, ne_eqb, eqb-true}
 use borrow.Author.Tests.{eqb-false}
-use Rattle.rules.specs.declared.Found.{Found}
-use Rattle.rules.specs.declared.Found.TheVariants.{At, Nothing}
+use Rattle.std.proofs.Common.{Option, Some, None}
 use Rattle.loss.specs.Loss.{Arrival, New, Repeated, Late, arrival_of, distance, counted, started}
 use Rattle.loss.specs.Loss.{row_at, no_row, free, of_teid, used_of, or_else, lowest, serving, offered, offer}
 use Rattle.loss.specs.History.{Offer, history, AllFree, own_offers}
 use Rattle.loss.specs.declared.Row.{Row}
-use Rattle.loss.proofs.Choosing.{same_or}
+use Rattle.std.proofs.lemmas.Bool.{cases_eq}
 use Rattle.loss.proofs.Lowest.{is-lowest, lowest_at, lowest-none}
 use Rattle.loss.proofs.Searching.{NoneBefore}
 use Rattle.loss.proofs.Offers.{Fit, served_place, stores, refuses, served_row, other_row, other-teid, same_length}
@@ -65,40 +64,40 @@ own-after teid number r fit =
 
 -- PLACES
 
-abbrev place : Found → ℕ → ℕ
-place (At k) d = k
-place Nothing d = d
+abbrev place : Option ℕ → ℕ → ℕ
+place (Some k) d = k
+place None d = d
 
-place_of : (j k : ℕ) → At j ≡ At k → j ≡ k
-place_of j k e = ap (λ (f : Found). place f 0) e
+place_of : (j k : ℕ) → Some j ≡ Some k → j ≡ k
+place_of j k e = ap (λ (f : Option ℕ). place f 0) e
 
-nothing_at : (j : ℕ) → Nothing ≡ At j → ⊥
-nothing_at j e = let h : suc j ≡ j = ap (λ (f : Found). place f (suc j)) e in omega arith
+nothing_at : (j : ℕ) → None ≡ Some j → ⊥
+nothing_at j e = let h : suc j ≡ j = ap (λ (f : Option ℕ). place f (suc j)) e in omega arith
 
 module _ (rows : List Row) (teid : ℕ) where
   abbrev n : ℕ
   n = used_of (length rows)
 
-  own-place : (i : ℕ) → i < n → of_teid teid (row_at rows i) ≡ true → NoneBefore (of_teid teid) rows i → serving rows teid ≡ At i
+  own-place : (i : ℕ) → i < n → of_teid teid (row_at rows i) ≡ true → NoneBefore (of_teid teid) rows i → serving rows teid ≡ Some i
   unfolding serving
-  own-place i h e none = rw (is-lowest (of_teid teid) rows n (At i) (h, e, none))
+  own-place i h e none = rw (is-lowest (of_teid teid) rows n (Some i) (h, e, none))
 
-  free-place : (k : ℕ) → NoneBefore (of_teid teid) rows n → lowest free rows n ≡ At k → serving rows teid ≡ At k
+  free-place : (k : ℕ) → NoneBefore (of_teid teid) rows n → lowest free rows n ≡ Some k → serving rows teid ≡ Some k
   unfolding serving
-  free-place k none e = rw (is-lowest (of_teid teid) rows n Nothing none, e)
+  free-place k none e = rw (is-lowest (of_teid teid) rows n None none, e)
 
-  no_place : NoneBefore (of_teid teid) rows n → lowest free rows n ≡ Nothing → serving rows teid ≡ Nothing
+  no_place : NoneBefore (of_teid teid) rows n → lowest free rows n ≡ None → serving rows teid ≡ None
   unfolding serving
-  no_place none e = rw (is-lowest (of_teid teid) rows n Nothing none, e)
+  no_place none e = rw (is-lowest (of_teid teid) rows n None none, e)
 
 -- ONE ROW BY ITSELF
 
 module _ (teid : ℕ) where
-  pub lone_serves : (r : Row) → Fit teid r → serving (r ∷ []) teid ≡ At 0
+  pub lone_serves : (r : Row) → Fit teid r → serving (r ∷ []) teid ≡ Some 0
   unfolding serving used_of lowest
   lone_serves r fit = go (free r) (eqb r.teid teid) fit
     where
-      go : (z w : Bool) → ((not z && w) ≡ true) ⊎ (z ≡ true) → or_else (cond (not z && w) (At 0) Nothing) (cond z (At 0) Nothing) ≡ At 0
+      go : (z w : Bool) → ((not z && w) ≡ true) ⊎ (z ≡ true) → or_else (cond (not z && w) (Some 0) None) (cond z (Some 0) None) ≡ Some 0
       go true w fit = refl
       go false true fit = refl
       go false false fit = absurd (⊎_elim (λ e. true≢false (sym e)) (λ e. true≢false (sym e)) fit)
@@ -122,27 +121,27 @@ module _ (teid : ℕ) where
 
   -- an offer by which a row is served, at any place: either that row, or one as before
   at_place : (rows : List Row) (other number : ℕ) (P : Row → Type 0) (j : ℕ)
-      → (serving rows other ≡ At j → P (offered (row_at rows j) other number).1) → P (row_at rows j)
+      → (serving rows other ≡ Some j → P (offered (row_at rows j) other number).1) → P (row_at rows j)
       → P (row_at (AfterOffer rows other number) j)
   at_place rows other number P j this else = go (serving rows other) refl
     where
-      go : (f : Found) → serving rows other ≡ f → P (row_at (AfterOffer rows other number) j)
-      go (At k) e =
-          ⊎_elim (λ same. let q = e ∙ ap At (sym same) in subst P (sym (served_row rows other number j q)) (this q))
-          (λ n. subst P (sym (other_row rows other number j (λ q. n (place_of j k (sym q ∙ e))))) else) (same_or j k)
-      go Nothing e = subst P (sym (other_row rows other number j (λ q. nothing_at j (sym e ∙ q)))) else
+      go : (f : Option ℕ) → serving rows other ≡ f → P (row_at (AfterOffer rows other number) j)
+      go (Some k) e =
+          ⊎_elim (λ same. let q = e ∙ ap Some (sym same) in subst P (sym (served_row rows other number j q)) (this q))
+          (λ n. subst P (sym (other_row rows other number j (λ q. n (place_of j k (sym q ∙ e))))) else) (cases_eq j k)
+      go None e = subst P (sym (other_row rows other number j (λ q. nothing_at j (sym e ∙ q)))) else
 
   -- the TEID's own offer
   own-step : (rows : List Row) (a : Row) (number : ℕ) → State rows a → State (AfterOffer rows teid number) (offered a teid number).1
   own-step rows a number (State.served i below own only same) =
-      let here : serving rows teid ≡ At i = own-place rows teid i below own
+      let here : serving rows teid ≡ Some i = own-place rows teid i below own
       (λ j h. not_own j (λ e. let q = only j e in omega arith)) in
       State.served i (subst (λ (k : ℕ). i < k) (sym (same-used rows teid number)) below)
       (subst (λ (r : Row). of_teid teid r ≡ true) (sym (served_row rows teid number i here))
       (own-after teid number (row_at rows i) (inl own)))
       (λ j e. ⊎_elim (λ q. q)
       (λ n. only j (subst (λ (r : Row). of_teid teid r ≡ true)
-      (other_row rows teid number j (λ q. n (place_of j i (sym q ∙ here)))) e)) (same_or j i))
+      (other_row rows teid number j (λ q. n (place_of j i (sym q ∙ here)))) e)) (cases_eq j i))
       (served_row rows teid number i here ∙ ap (λ (r : Row). (offered r teid number).1) same)
     where
       not_own : (j : ℕ) → (of_teid teid (row_at rows j) ≡ true → ⊥) → of_teid teid (row_at rows j) ≡ false
@@ -159,10 +158,10 @@ module _ (teid : ℕ) where
       begins : (offered a teid number).1 ≡ started teid number
       begins = ap (λ (o : ℕ × Row). o.1) (offered-free a teid number (eqb-true a.seen 0 empty))
 
-      go : (f : Found) → lowest free rows n ≡ f → State (AfterOffer rows teid number) (offered a teid number).1
-      go (At k) e =
+      go : (f : Option ℕ) → lowest free rows n ≡ f → State (AfterOffer rows teid number) (offered a teid number).1
+      go (Some k) e =
           let p = lowest_at free rows n k e in
-          let here : serving rows teid ≡ At k = free-place rows teid k (λ j h. none j) e in
+          let here : serving rows teid ≡ Some k = free-place rows teid k (λ j h. none j) e in
           let first = offered-free (row_at rows k) teid number (eqb-true _ 0 p.1) in
           let row = served_row rows teid number k here ∙ ap (λ (o : ℕ × Row). o.1) first in
           State.served k (subst (λ (m : ℕ). k < m) (sym (same-used rows teid number)) p.0)
@@ -170,23 +169,23 @@ module _ (teid : ℕ) where
           (λ j q. ⊎_elim (λ same. same)
           (λ differ. absurd (true≢false
           (sym q ∙ ap (of_teid teid) (other_row rows teid number j (λ z. differ (place_of j k (sym z ∙ here)))) ∙ none j)))
-          (same_or j k))
+          (cases_eq j k))
           (row ∙ sym begins)
-      go Nothing e =
-          let shut : serving rows teid ≡ Nothing = no_place rows teid (λ j h. none j) e in
+      go None e =
+          let shut : serving rows teid ≡ None = no_place rows teid (λ j h. none j) e in
           let rows_stay = ap (λ (o : ℕ × List Row). o.1) (refuses rows teid number shut) in
           subst (λ (l : List Row). State l (offered a teid number).1) (sym rows_stay)
           (State.shut_out none (λ j h. lowest-none free rows n e j h))
   own-step rows a number (State.shut_out none busy) =
-      let no-free = is-lowest free rows (used_of (length rows)) Nothing busy in
-      let shut : serving rows teid ≡ Nothing = no_place rows teid (λ j h. none j) no-free in
+      let no-free = is-lowest free rows (used_of (length rows)) None busy in
+      let shut : serving rows teid ≡ None = no_place rows teid (λ j h. none j) no-free in
       let rows_stay = ap (λ (o : ℕ × List Row). o.1) (refuses rows teid number shut) in
       subst (λ (l : List Row). State l (offered a teid number).1) (sym rows_stay) (State.shut_out none busy)
 
   -- an offer of another TEID
   module _ (rows : List Row) (a : Row) (other number : ℕ) (differ : other ≡ teid → ⊥) where
     -- a row that the offer is served by is the other's
-    others : (j : ℕ) → serving rows other ≡ At j → of_teid other (offered (row_at rows j) other number).1 ≡ true
+    others : (j : ℕ) → serving rows other ≡ Some j → of_teid other (offered (row_at rows j) other number).1 ≡ true
     others j q = own-after other number (row_at rows j) (served_place rows other j q).1
 
     never-own : (j : ℕ) → of_teid teid (row_at rows j) ≡ false → of_teid teid (row_at (AfterOffer rows other number) j) ≡ false
@@ -275,10 +274,10 @@ module _ (rows : List Row) (xs : List Offer) (teid i : ℕ) (empty : AllFree row
       go (State.shut_out none _) = absurd (true≢false (sym own ∙ none i))
 
   -- and it is the row that serves: no other is of the TEID
-  pub own_serves_next : serving (history rows xs) teid ≡ At i
+  pub own_serves_next : serving (history rows xs) teid ≡ Some i
   own_serves_next = go (state-after teid rows no_row xs (at_first no_row refl))
     where
-      go : State teid (history rows xs) (alone teid no_row xs) → serving (history rows xs) teid ≡ At i
+      go : State teid (history rows xs) (alone teid no_row xs) → serving (history rows xs) teid ≡ Some i
       go (State.served k below here only same) =
           let q = only i own in
           own-place (history rows xs) teid i (subst (λ (j : ℕ). j < used_of (length (history rows xs))) (sym q) below) own

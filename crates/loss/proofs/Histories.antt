@@ -1,13 +1,12 @@
 -- What the counts of a row say, over every history from free rows.
 use Rattle.std.proofs.Common.{◌≡◌, ℕ, suc, ◌+◌, ◌-◌, ◌*◌, ◌%◌, ◌^◌, ◌<◌, ◌≤◌, ◌⊎◌, List, [], ◌∷◌, sym, refl, ap, ◌∙◌, subst, inl, inr}
 use Rattle.std.proofs.Common.{⊎_elim, mod-eq_of_lt, eq-or-lt_of_le, arith, eq-eqb, ne_eqb}
-use Rattle.rules.specs.declared.Found.{Found}
-use Rattle.rules.specs.declared.Found.TheVariants.{At, Nothing}
+use Rattle.std.proofs.Common.{Option, Some, None}
 use Rattle.loss.specs.Loss.{arrival_of, distance, counted, started, row_at, serving, offered, offer}
 use Rattle.loss.specs.Told.{Told}
 use Rattle.loss.specs.History.{Offer, history, Numbers, AllFree, Counts}
 use Rattle.loss.specs.declared.Row.{Row}
-use Rattle.loss.proofs.Choosing.{same_or}
+use Rattle.std.proofs.lemmas.Bool.{cases_eq}
 use Rattle.loss.proofs.Telling.{told_of}
 use Rattle.loss.proofs.Offers.{served_row, other_row}
 
@@ -108,8 +107,8 @@ module _ (r : Row) (teid number : ℕ) where
   by_case P empty whole counts =
       ⊎_elim (λ e. subst P (sym (offered-free e)) (empty e))
       (λ n. ⊎_elim (λ e. subst P (sym (offered-full e)) (whole e)) (λ f. subst P (sym (offered-counted n f)) (counts n f))
-      (same_or r.seen 4294967295))
-      (same_or r.seen 0)
+      (cases_eq r.seen 4294967295))
+      (cases_eq r.seen 0)
 
 pub below-full : (r : Row) → Kept r → (r.seen ≡ 4294967295 → ⊥) → r.seen < 4294967295
 below-full r kept n = ⊎_elim (λ e. absurd (n e)) (λ l. l) (eq-or-lt_of_le kept.seen_small)
@@ -127,23 +126,24 @@ AllFine rows = (i : ℕ) → Fine (row_at rows i)
 pub fine-offer : (rows : List Row) (teid number : ℕ) → AllFine rows → number < 65536 → AllFine (offer rows teid number).1
 fine-offer rows teid number fine small = λ i. go i (serving rows teid) refl
   where
-    other : (i : ℕ) → (serving rows teid ≡ At i → ⊥) → Fine (row_at (offer rows teid number).1 i)
+    other : (i : ℕ) → (serving rows teid ≡ Some i → ⊥) → Fine (row_at (offer rows teid number).1 i)
     other i n = subst Fine (sym (other_row rows teid number i n)) (fine i)
 
-    this : (i : ℕ) → serving rows teid ≡ At i → Fine (row_at (offer rows teid number).1 i)
+    this : (i : ℕ) → serving rows teid ≡ Some i → Fine (row_at (offer rows teid number).1 i)
     this i e = subst Fine (sym (served_row rows teid number i e)) (fine-offered (row_at rows i) teid number (fine i) small)
 
-    place : Found → ℕ → ℕ
-    place (At k) d = k
-    place Nothing d = d
+    place : Option ℕ → ℕ → ℕ
+    place (Some k) d = k
+    place None d = d
 
-    go : (i : ℕ) (f : Found) → serving rows teid ≡ f → Fine (row_at (offer rows teid number).1 i)
-    go i (At k) e =
-        ⊎_elim (λ same. this i (e ∙ ap At (sym same))) (λ n. other i (λ q. n (ap (λ (f : Found). place f i) (sym q ∙ e)))) (same_or i k)
-    go i Nothing e = other i (λ q. nothing_at (sym e ∙ q))
+    go : (i : ℕ) (f : Option ℕ) → serving rows teid ≡ f → Fine (row_at (offer rows teid number).1 i)
+    go i (Some k) e =
+        ⊎_elim (λ same. this i (e ∙ ap Some (sym same)))
+        (λ n. other i (λ q. n (ap (λ (f : Option ℕ). place f i) (sym q ∙ e)))) (cases_eq i k)
+    go i None e = other i (λ q. nothing_at (sym e ∙ q))
       where
-        nothing_at : Nothing ≡ At i → ⊥
-        nothing_at p = absurd (let h : suc i ≡ i = ap (λ (f : Found). place f (suc i)) p in omega arith)
+        nothing_at : None ≡ Some i → ⊥
+        nothing_at p = absurd (let h : suc i ≡ i = ap (λ (f : Option ℕ). place f (suc i)) p in omega arith)
 
 pub fine-history : (rows : List Row) (xs : List Offer) → AllFine rows → Numbers xs → AllFine (history rows xs)
 unfolding history

@@ -1,4 +1,3 @@
-pub mod Choosing
 pub mod Distances
 pub mod Lowest
 pub mod Searching

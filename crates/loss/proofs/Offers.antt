@@ -6,8 +6,7 @@ use Rattle.std.proofs.Common.{get_or-set_other, get_or-set_same, ltb-false, eqb-
 use lib.ListN.{get_or-append}
 use lib.Seq.{set-get_or}
 use Rattle.rules.specs.Answer.{packed_fields}
-use Rattle.rules.specs.declared.Found.{Found}
-use Rattle.rules.specs.declared.Found.TheVariants.{At, Nothing}
+use Rattle.std.proofs.Common.{Option, Some, None}
 use Rattle.loss.specs.Loss.{row_at, no_row, free, full, of_teid, used_of, or_else, lowest, serving}
 use Rattle.loss.specs.Loss.{started, counted, arrival_of, distance, offered, offer_at, offer}
 use Rattle.loss.specs.History.{Offer, history}
@@ -22,67 +21,67 @@ abbrev pub Fit : (teid : ℕ) → Row → Type 0
 Fit teid r = (of_teid teid r ≡ true) ⊎ (free r ≡ true)
 
 module _ (rows : List Row) (teid : ℕ) where
-  pub served_place : (i : ℕ) → serving rows teid ≡ At i → (i < used_of (length rows)) × Fit teid (row_at rows i)
+  pub served_place : (i : ℕ) → serving rows teid ≡ Some i → (i < used_of (length rows)) × Fit teid (row_at rows i)
   unfolding serving
   served_place i e = go (lowest (of_teid teid) rows n) (lowest free rows n) refl refl e
     where
       n : ℕ
       n = used_of (length rows)
 
-      at_i : (meets : Row → Bool) (k : ℕ) → lowest meets rows n ≡ At k → At k ≡ At i → (i < n) × (meets (row_at rows i) ≡ true)
+      at_i : (meets : Row → Bool) (k : ℕ) → lowest meets rows n ≡ Some k → Some k ≡ Some i → (i < n) × (meets (row_at rows i) ≡ true)
       at_i meets k p q = let a = lowest_at meets rows n i (p ∙ q) in (a.0, a.1)
 
-      go : (t f : Found) → lowest (of_teid teid) rows n ≡ t → lowest free rows n ≡ f → or_else t f ≡ At i → (i < n)
+      go : (t f : Option ℕ) → lowest (of_teid teid) rows n ≡ t → lowest free rows n ≡ f → or_else t f ≡ Some i → (i < n)
           × Fit teid (row_at rows i)
-      go (At k) f p q e = let a = at_i (of_teid teid) k p e in (a.0, inl a.1)
-      go Nothing (At k) p q e = let a = at_i free k q e in (a.0, inr a.1)
-      go Nothing Nothing p q e = absurd (nothing_at i e)
+      go (Some k) f p q e = let a = at_i (of_teid teid) k p e in (a.0, inl a.1)
+      go None (Some k) p q e = let a = at_i free k q e in (a.0, inr a.1)
+      go None None p q e = absurd (nothing_at i e)
         where
-          nothing_at : (i : ℕ) → Nothing ≡ At i → ⊥
-          nothing_at i e = true≢false (ap (λ (f : Found). is-nothing f) e)
+          nothing_at : (i : ℕ) → None ≡ Some i → ⊥
+          nothing_at i e = true≢false (ap (λ (f : Option ℕ). is-none f) e)
             where
-              is-nothing : Found → Bool
-              is-nothing Nothing = true
-              is-nothing (At k) = false
+              is-none : Option ℕ → Bool
+              is-none None = true
+              is-none (Some k) = false
 
-  pub inside : (i : ℕ) → serving rows teid ≡ At i → i < length rows
+  pub inside : (i : ℕ) → serving rows teid ≡ Some i → i < length rows
   inside i e = let h = (served_place i e).0 in let u = used_le (length rows) in omega arith
 
   module _ (number : ℕ) where
     -- the row at place i is stored anew, and the answer is that row's
-    pub stores : (i : ℕ) → serving rows teid ≡ At i
+    pub stores : (i : ℕ) → serving rows teid ≡ Some i
         → offer rows teid number ≡ ((offered (row_at rows i) teid number).0, set rows i (offered (row_at rows i) teid number).1)
     unfolding offer offer_at
     stores i e = rw e
 
-    pub refuses : serving rows teid ≡ Nothing → offer rows teid number ≡ (25, rows)
+    pub refuses : serving rows teid ≡ None → offer rows teid number ≡ (25, rows)
     unfolding offer offer_at
     refuses e = rw e
 
     abbrev after : List Row
     after = (offer rows teid number).1
 
-    by_place : (P : ℕ × List Row → Type 0) → (serving rows teid ≡ Nothing → P (25, rows))
-        → ((i : ℕ) → serving rows teid ≡ At i
+    by_place : (P : ℕ × List Row → Type 0) → (serving rows teid ≡ None → P (25, rows))
+        → ((i : ℕ) → serving rows teid ≡ Some i
         → P ((offered (row_at rows i) teid number).0, set rows i (offered (row_at rows i) teid number).1))
         → P (offer rows teid number)
     by_place P none some = go (serving rows teid) refl
       where
-        go : (f : Found) → serving rows teid ≡ f → P (offer rows teid number)
-        go (At i) e = subst P (sym (stores i e)) (some i e)
-        go Nothing e = subst P (sym (refuses e)) (none e)
+        go : (f : Option ℕ) → serving rows teid ≡ f → P (offer rows teid number)
+        go (Some i) e = subst P (sym (stores i e)) (some i e)
+        go None e = subst P (sym (refuses e)) (none e)
 
     pub same_length : length after ≡ length rows
     same_length = by_place (λ (o : ℕ × List Row). length o.1 ≡ length rows) (λ _. refl) (λ i e. length-set rows i _)
 
-    pub served_row : (i : ℕ) → serving rows teid ≡ At i → row_at after i ≡ (offered (row_at rows i) teid number).1
+    pub served_row : (i : ℕ) → serving rows teid ≡ Some i → row_at after i ≡ (offered (row_at rows i) teid number).1
     served_row i e = ap (λ (o : ℕ × List Row). row_at o.1 i) (stores i e) ∙ get_or-set_same rows i _ no_row (inside i e)
 
     -- every other row is untouched
-    pub other_row : (j : ℕ) → (serving rows teid ≡ At j → ⊥) → row_at after j ≡ row_at rows j
+    pub other_row : (j : ℕ) → (serving rows teid ≡ Some j → ⊥) → row_at after j ≡ row_at rows j
     other_row j other =
         by_place (λ (o : ℕ × List Row). row_at o.1 j ≡ row_at rows j) (λ _. refl)
-        (λ i e. get_or-set_other rows i j _ no_row (λ (same : j ≡ i). other (e ∙ ap At (sym same))))
+        (λ i e. get_or-set_other rows i j _ no_row (λ (same : j ≡ i). other (e ∙ ap Some (sym same))))
 
     -- a row of another TEID is untouched
     pub other-teid : (j other : ℕ) → of_teid other (row_at rows j) ≡ true → (other ≡ teid → ⊥) → row_at after j ≡ row_at rows j
@@ -199,9 +198,9 @@ module _ (rows more : List Row) where
         Both : ℕ × List Row → Type 0
         Both o = offer (rows ++ more) teid number ≡ (o.0, o.1 ++ more)
 
-        go : (f : Found) → serving rows teid ≡ f → Both (offer rows teid number)
-        go Nothing e = subst Both (sym (refuses rows teid number e)) (refuses (rows ++ more) teid number (serving_front teid ∙ e))
-        go (At i) e =
+        go : (f : Option ℕ) → serving rows teid ≡ f → Both (offer rows teid number)
+        go None e = subst Both (sym (refuses rows teid number e)) (refuses (rows ++ more) teid number (serving_front teid ∙ e))
+        go (Some i) e =
             let within = inside rows teid i e in
             subst Both (sym (stores rows teid number i e))
             (stores (rows ++ more) teid number i (serving_front teid ∙ e)

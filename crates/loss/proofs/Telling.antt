@@ -2,13 +2,12 @@
 use Rattle.std.proofs.Common.{◌≡◌, ℕ, ◌+◌, ◌-◌, ◌%◌, ◌<◌, ◌≤◌, Bool, true, false, cond, not, ◌&&◌, eqb, ltb, List, length, set, sym, refl}
 use Rattle.std.proofs.Common.{ap, ◌∙◌, subst, ⊎_elim, true≢false, eq-or-lt_of_le, arith, ltb-false, ltb-true, eq-eqb, ne_eqb, eqb-true}
 use borrow.Author.Tests.{eqb-false}
-use Rattle.rules.specs.declared.Found.{Found}
-use Rattle.rules.specs.declared.Found.TheVariants.{At, Nothing}
+use Rattle.std.proofs.Common.{Option, Some, None}
 use Rattle.loss.specs.Loss.{signed_of, distance, Arrival, New, Repeated, Late, arrival_of, counted, started}
 use Rattle.loss.specs.Loss.{row_at, free, of_teid, used_of, lowest, offer}
 use Rattle.loss.specs.Told.{Holds, LowestOwn, NoOwn, Fits, Told, Answers}
 use Rattle.loss.specs.declared.Row.{Row}
-use Rattle.loss.proofs.Choosing.{below_or, same_or}
+use Rattle.std.proofs.lemmas.Bool.{cases_lt, cases_eq}
 use Rattle.loss.proofs.Distances.{new_at, repeated_at, late_at}
 use Rattle.loss.proofs.Lowest.{lowest_at, lowest-none}
 use Rattle.loss.proofs.Searching.{NoneBefore, offer-none, offer-full, offer-counted, offer-started}
@@ -22,7 +21,7 @@ holds teid r e = go (eqb r.seen 0) (eqb r.teid teid) refl refl e
     go false true p q e = let n = eqb-false r.seen 0 p in (positive r.seen n, eqb-true r.teid teid q)
       where
         positive : (k : ℕ) → (k ≡ 0 → ⊥) → 0 < k
-        positive k n = ⊎_elim (λ h. h) (λ l. absurd (n (omega arith))) (below_or 0 k)
+        positive k n = ⊎_elim (λ h. h) (λ l. absurd (n (omega arith))) (cases_lt 0 k)
     go false false p q e = absurd (true≢false (sym e))
     go true w p q e = absurd (true≢false (sym e))
 
@@ -40,7 +39,7 @@ in_use : (r : Row) → 0 < r.seen → free r ≡ false
 in_use r h = ne_eqb r.seen 0 (λ e. omega arith)
 
 used_seen : (r : Row) → free r ≡ false → 0 < r.seen
-used_seen r e = ⊎_elim (λ h. h) (λ l. absurd (eqb-false r.seen 0 e (omega arith))) (below_or 0 r.seen)
+used_seen r e = ⊎_elim (λ h. h) (λ l. absurd (eqb-false r.seen 0 e (omega arith))) (cases_lt 0 r.seen)
 
 below : (n i : ℕ) → (i < n) × (i < 256) → i < used_of n
 unfolding used_of
@@ -95,8 +94,8 @@ told_of r number small h =
     ⊎_elim (λ z. by_arrival Repeated (repeated_at d (omega arith) (omega arith)) (Told.is_repeated (omega arith)))
     (λ p. ⊎_elim (λ l. by_arrival (New (d - 1)) (new_at d (omega arith) p l) (Told.is_new (d - 1) (omega arith) (omega arith)))
     (λ l. by_arrival Late (late_at d (omega arith) l) (Told.is_late (65536 - d) (omega arith) (omega arith) (omega arith)))
-    (below_or d 32768))
-    (below_or d 1)
+    (cases_lt d 32768))
+    (cases_lt d 1)
   where
     d : ℕ
     d = (number + 65536 - r.highest) % 65536
@@ -136,14 +135,14 @@ module _ (rows : List Row) (teid number : ℕ) (small : number < 65536) (fits : 
   pub offer-answers : Answers rows teid number (offer rows teid number).0 (offer rows teid number).1
   offer-answers = go (lowest (of_teid teid) rows n) (lowest free rows n) refl refl
     where
-      no_own : lowest (of_teid teid) rows n ≡ Nothing → NoOwn rows teid
+      no_own : lowest (of_teid teid) rows n ≡ None → NoOwn rows teid
       no_own p j u h = true≢false (sym (held teid (row_at rows j) h) ∙ lowest-none (of_teid teid) rows n p j (below (length rows) j u))
 
-      go : (t f : Found) → lowest (of_teid teid) rows n ≡ t → lowest free rows n ≡ f
+      go : (t f : Option ℕ) → lowest (of_teid teid) rows n ≡ t → lowest free rows n ≡ f
           → Answers rows teid number (offer rows teid number).0 (offer rows teid number).1
-      go (At i) f p q =
+      go (Some i) f p q =
           ⊎_elim (λ e. given _ _ (Answers.is_full i low e)) (λ e. given _ _ (counted_at (fewer e)))
-          (same_or (row_at rows i).seen 4294967295)
+          (cases_eq (row_at rows i).seen 4294967295)
         where
           low : LowestOwn rows teid i
           low =
@@ -164,10 +163,10 @@ module _ (rows : List Row) (teid number : ℕ) (small : number < 65536) (fits : 
               → Answers rows teid number 0
               (set rows i (counted (row_at rows i) number (arrival_of (distance number (row_at rows i).highest))))
           counted_at h = Answers.counts i _ low h (told_of (row_at rows i) number small (fits i).0)
-      go Nothing (At i) p q =
+      go None (Some i) p q =
           let a = lowest_at free rows n i q in
           given _ _ (Answers.begins i (no_own p) (used (length rows) i a.0) (eqb-true (row_at rows i).seen 0 a.1)
           (λ j h. used_seen (row_at rows j) (a.2 j h)))
-      go Nothing Nothing p q =
+      go None None p q =
           given _ _ (Answers.none_free (no_own p)
           (λ j u. used_seen (row_at rows j) (lowest-none free rows n q j (below (length rows) j u))))

@@ -1,3 +1,4 @@
+pub mod Answered
 pub mod Loss
 pub mod Told
 pub mod History

@@ -1,8 +1,7 @@
 -- Lost sequence numbers (order 13): what an offer answers, and what it leaves in the rows.
 use Rattle.std.specs.Prelude.{ℕ, zero, suc, ◌+◌, ◌-◌, ◌%◌, ◌^◌, Bool, cond, not, ◌&&◌, List, length, ℤ, pos, negsuc, ◌==◌, nat_lt}
 use Rattle.std.specs.Prelude.{slice_index_or, slice_set}
-use Rattle.rules.specs.declared.Found.{Found}
-use Rattle.rules.specs.declared.Found.TheVariants.{At, Nothing}
+use Rattle.std.specs.Prelude.{Option, Some, None}
 use Rattle.loss.specs.declared.Row.{Row}
 
 -- THE DISTANCE OF A NUMBER FROM THE HIGHEST ONE
@@ -89,17 +88,17 @@ abbrev pub row_at : List Row → ℕ → Row
 row_at rows i = slice_index_or rows i no_row
 
 -- one place, or another where there is none
-abbrev pub or_else : Found → Found → Found
-or_else (At i) other = At i
-or_else Nothing other = other
+abbrev pub or_else : Option ℕ → Option ℕ → Option ℕ
+or_else (Some i) other = Some i
+or_else None other = other
 
 -- the lowest place below n whose row meets a condition
-unfoldable pub lowest : (meets : Row → Bool) (rows : List Row) (n : ℕ) → Found
-lowest meets rows zero = Nothing
-lowest meets rows (suc i) = or_else (lowest meets rows i) (cond (meets (row_at rows i)) (At i) Nothing)
+unfoldable pub lowest : (meets : Row → Bool) (rows : List Row) (n : ℕ) → Option ℕ
+lowest meets rows zero = None
+lowest meets rows (suc i) = or_else (lowest meets rows i) (cond (meets (row_at rows i)) (Some i) None)
 
 -- the lowest row of the TEID serves, else the lowest free one
-unfoldable pub serving : (rows : List Row) (teid : ℕ) → Found
+unfoldable pub serving : (rows : List Row) (teid : ℕ) → Option ℕ
 serving rows teid =
     let n = used_of (length rows) in
     or_else (lowest (of_teid teid) rows n) (lowest free rows n)
@@ -114,9 +113,9 @@ offered r teid number =
     (0, counted r number (arrival_of (distance number r.highest))))
 
 -- it is stored where it stood; 25 where no row serves
-unfoldable pub offer_at : (rows : List Row) (teid number : ℕ) → Found → ℕ × List Row
-offer_at rows teid number Nothing = (25, rows)
-offer_at rows teid number (At i) =
+unfoldable pub offer_at : (rows : List Row) (teid number : ℕ) → Option ℕ → ℕ × List Row
+offer_at rows teid number None = (25, rows)
+offer_at rows teid number (Some i) =
     let o = offered (row_at rows i) teid number in
     (o.0, slice_set rows i o.1)
 

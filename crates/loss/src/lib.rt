@@ -1,8 +1,9 @@
 // Lost sequence numbers (order 13): rows that the caller lends, one record for each TEID, and numbers offered in the order of arrival.
 #![tactic(auto)]
 
-ghost use Rattle.std.specs.Prelude.{◌≡◌, ◌<◌};
-ghost use Rattle.loss.specs.Loss.{signed_of, arrival_of, distance, counted, started, free, of_teid, used_of, offer};
+ghost use Rattle.std.specs.Prelude.{◌≡◌, ◌≤◌, ◌<◌, position};
+ghost use Rattle.loss.specs.Loss.{arrival_of, distance, counted, started, free, of_teid, used_of, offer};
+ghost use Rattle.loss.specs.Answered.{number_of, answer_of};
 
 // A row is free where `seen` is 0.
 #[repr(C)]
@@ -20,133 +21,132 @@ pub struct Row {
 
 const ROWS_MAX: usize = 256;
 
-const SEEN_MAX: u32 = 4294967295;
+// Why an offer is refused: no row serves, or the one that does has seen all that it can count.
+#[derive(Clone, Copy, Debug, PartialEq, Eq)]
+enum Refusal {
+    NoRow,
+    Full,
+}
 
-// A difference mod 65,536 read as -32,768 to 32,767.
-fn signed(d: u16) -> i16
-    ensures { result ≡ signed_of d }
-{
-    if d < 32768 {
-        d as i16
-    } else {
-        -1 - ((65535 - d) as i16)
+// The numbers of the answer table.
+impl From<Refusal> for u64 {
+    ghost from_gives = { λ r n. n ≡ number_of r };
+
+    fn from(refusal: Refusal) -> u64 {
+        match refusal {
+            Refusal::NoRow => 25,
+            Refusal::Full => 26,
+        }
     }
 }
 
-// The row after one more number.
-fn counted(row: Row, number: u16) -> Row
-    requires { row.seen < 4294967295 }
-    ensures { result ≡ counted row number (arrival_of (distance number row.highest)) }
-{
-    let d = std::num::wrapping_sub_u16(number, row.highest);
-    let distance = signed(d);
-    if distance == 0 {
-        let repeated = std::num::wrapping_add_u32(row.repeated, 1);
-        return Row {
-            teid: row.teid,
-            first: row.first,
-            highest: row.highest,
-            seen: row.seen + 1,
-            new: row.new,
-            repeated,
-            late: row.late,
-            lost: row.lost,
-        };
-    }
-    if distance > 0 {
-        let new = std::num::wrapping_add_u32(row.new, 1);
-        let lost = std::num::wrapping_add_u64(row.lost, (d - 1) as u64);
-        return Row {
-            teid: row.teid,
-            first: row.first,
+impl Row {
+    // A row that its first number has taken.
+    fn started(teid: u32, number: u16) -> Row
+        ensures { result ≡ started teid number }
+    {
+        Row {
+            teid,
+            first: number,
             highest: number,
-            seen: row.seen + 1,
-            new,
-            repeated: row.repeated,
-            late: row.late,
-            lost,
-        };
+            seen: 1,
+            new: 1,
+            repeated: 0,
+            late: 0,
+            lost: 0,
+        }
     }
-    let late = std::num::wrapping_add_u32(row.late, 1);
-    Row {
-        teid: row.teid,
-        first: row.first,
-        highest: row.highest,
-        seen: row.seen + 1,
-        new: row.new,
-        repeated: row.repeated,
-        late,
-        lost: row.lost,
-    }
-}
 
-// A row that its first number has taken.
-fn started(teid: u32, number: u16) -> Row
-    ensures { result ≡ started teid number }
-{
-    Row {
-        teid,
-        first: number,
-        highest: number,
-        seen: 1,
-        new: 1,
-        repeated: 0,
-        late: 0,
-        lost: 0,
+    // The row after one more number. The difference mod 65,536 is read as -32,768 to 32,767.
+    fn counted(self, number: u16) -> Row
+        requires { self.seen < 4294967295 }
+        ensures { result ≡ counted self number (arrival_of (distance number self.highest)) }
+    {
+        let d = number.wrapping_sub(self.highest);
+        let distance = d.cast_signed();
+        if distance == 0 {
+            return Row {
+                seen: self.seen + 1,
+                repeated: self.repeated.wrapping_add(1),
+                ..self
+            };
+        }
+        if distance > 0 {
+            return Row {
+                highest: number,
+                seen: self.seen + 1,
+                new: self.new.wrapping_add(1),
+                lost: self.lost.wrapping_add(u64::from(d - 1)),
+                ..self
+            };
+        }
+        Row {
+            seen: self.seen + 1,
+            late: self.late.wrapping_add(1),
+            ..self
+        }
+    }
+
+    fn is_free(self) -> bool
+        ensures { result ≡ free self }
+    {
+        self.seen == 0
+    }
+
+    // The row is one of the TEID.
+    fn is_of(self, teid: u32) -> bool
+        ensures { result ≡ of_teid teid self }
+    {
+        (self.seen != 0) & (self.teid == teid)
     }
 }
 
 // How many of n rows are used.
 fn used_of(n: usize) -> usize
-    ensures { result ≡ used_of n }
+    ensures value { result ≡ used_of n }
+    ensures within { result ≤ n }
 {
-    if ROWS_MAX < n { ROWS_MAX } else { n }
+    n.min(ROWS_MAX)
 }
 
-// The row is free.
-fn is_free(row: Row) -> bool
-    ensures { result ≡ free row }
+// The lowest row of the TEID.
+fn own_place(rows: &[Row], teid: u32) -> Option<usize>
+    ensures { result ≡ position (of_teid teid) rows.now }
 {
-    row.seen == 0
+    rows.iter().position(|row| row.is_of(teid))
 }
 
-// The row is one of the TEID.
-fn is_of(row: Row, teid: u32) -> bool
-    ensures { result ≡ of_teid teid row }
+// The lowest free row.
+fn free_place(rows: &[Row]) -> Option<usize>
+    ensures { result ≡ position free rows.now }
 {
-    (row.seen != 0) & (row.teid == teid)
+    rows.iter().position(|row| row.is_free())
 }
 
-// Offers one number: finds the row that serves, and stores the one updated record.
+// Finds the row that serves, and stores the one updated record.
+fn count(rows: &mut [Row], teid: u32, number: u16) -> Result<(), Refusal>
+    ensures { (answer_of result, rows.new) ≡ offer rows.old teid number }
+{
+    let n = used_of(rows.len());
+    if let Some(own) = own_place(&rows[..n], teid) {
+        let row = rows[own];
+        if row.seen == u32::MAX {
+            return Err(Refusal::Full);
+        }
+        rows[own] = row.counted(number);
+        return Ok(());
+    }
+    let place = free_place(&rows[..n]).ok_or(Refusal::NoRow)?;
+    rows[place] = Row::started(teid, number);
+    Ok(())
+}
+
+// Offers one number: 0, or why it is refused.
 pub fn offer(rows: &mut [Row], teid: u32, number: u16) -> u64
     ensures { (result, rows.new) ≡ offer rows.old teid number }
 {
-    let n = used_of(rows.len());
-    let mut own = 0;
-    while own < n {
-        if is_of(rows[own], teid) {
-            break;
-        }
-        own += 1;
+    match count(rows, teid, number) {
+        Ok(()) => 0,
+        Err(refusal) => u64::from(refusal),
     }
-    if own != n {
-        let row = rows[own];
-        if row.seen == SEEN_MAX {
-            return 26;
-        }
-        rows[own] = counted(row, number);
-        return 0;
-    }
-    let mut place = 0;
-    while place < n {
-        if is_free(rows[place]) {
-            break;
-        }
-        place += 1;
-    }
-    if place < n {
-        rows[place] = started(teid, number);
-        return 0;
-    }
-    25
 }

@@ -2,7 +2,7 @@
 use mathlib.Core.Path.{◌≡◌, refl, sym, ap, ◌∙◌, subst}
 use mathlib.Core.Bool.{Bool, true, false, cond}
 use mathlib.Core.List.{List, [], ◌∷◌, ◌++◌, append_assoc}
-use Prim.Native.Nat.{ℕ, zero, suc, ◌+◌, ◌-◌, ◌*◌, ◌≤◌, ◌<◌}
+use Prim.Native.Nat.{ℕ, zero, suc, ◌+◌, ◌-◌, ◌*◌, ◌≤◌}
 use native.Mathlib.Nat.{zero-add}
 use native.Mathlib.Omega.{arith}
 use lib.Dec.{eqb}
@@ -15,7 +15,7 @@ use Rattle.rules.specs.Gtpu as Gtpu
 use Rattle.rules.specs.Table.{addresses_at}
 use Rattle.rules.specs.Args.{Args, with_args}
 use Rattle.rules.specs.Ipv6.{ipv6}
-use Rattle.rules.specs.Answer.{Row, verdict, Sent, Refused, unless, settle}
+use Rattle.rules.specs.Answer.{Row, verdict, Sent, unless, settle, Verdict}
 use Rattle.rules.specs.Header4.{header4, WellFormed4}
 use Rattle.rules.specs.Datagram.{datagram, message_rows}
 use Rattle.rules.specs.Echo.{is_echo, echo_rows, echo_reply4}
@@ -28,17 +28,15 @@ use Rattle.rules.specs.Plan.{carry_out, head_along, inner_at, d4_head, echo_plan
 use Rattle.rules.specs.declared.Header4.{Header4}
 use Rattle.rules.specs.declared.Datagram.{Datagram}
 use Rattle.rules.specs.declared.Refusal.{Refusal}
-use Rattle.rules.specs.declared.Verdict.{Verdict}
-use Rattle.rules.specs.declared.Verdict.TheVariants.{Pass, Refuse}
+use Rattle.std.specs.Prelude.{Result, Ok, Err}
 use Rattle.rules.proofs.Judging.{refused-first}
 use Rattle.rules.proofs.Paths.{addresses_at-length}
 use Rattle.rules.proofs.Plans.{inner_4, all_head, echo4_carried_out, g_pdu4_carried_out}
 use Rattle.copying.specs.Run.{Run}
 use Rattle.copying.proofs.Laws.{splice_front, chain, run_as}
 use Rattle.octets.proofs.Windows.{window_part}
-use Rattle.answer.specs.declared.Answer.{Answer}
-use Rattle.answer.specs.Answered.{answer_of, Answered}
-use Rattle.answer.proofs.Settling.{answered_as, answered-refused, refuse_settles}
+use Rattle.answer.specs.Answered.{Settled}
+use Rattle.answer.proofs.Settling.{settled_as, settled-refused, refuse_settles}
 use Rattle.answer.proofs.Calling.{Judged, plan_refused, plan_replied}
 use Rattle.echo.specs.Reply.{reply_to4}
 use Rattle.path.proofs.Heads.{head_length}
@@ -158,17 +156,17 @@ module _ (r p : List ℕ) (h : Header4) (arrived : WellFormed4 p h) (g : Datagra
           }
 
       -- a refusal, whatever the message is
-      pub d4_refused : (ρ : Refusal) (b : List ℕ) (a : Answer) → v ≡ Refuse ρ → (a ≡ answer_of (Refused ρ)) × (a.size < 65700)
-          → Answered (settle (length b) (at_d4 r p)) b a b
-      d4_refused ρ b a q k = go (is_echo (datagram (datagram_in4 p))) refl
+      pub d4_refused : (ρ : Refusal) (b : List ℕ) (k : Result ℕ Refusal) → v ≡ Err ρ → k ≡ Err ρ
+          → Settled (settle (length b) (at_d4 r p)) b k b
+      d4_refused ρ b k q h = go (is_echo (datagram (datagram_in4 p))) refl
         where
-          go : (echo : Bool) → is_echo (datagram (datagram_in4 p)) ≡ echo → Answered (settle (length b) (at_d4 r p)) b a b
+          go : (echo : Bool) → is_echo (datagram (datagram_in4 p)) ≡ echo → Settled (settle (length b) (at_d4 r p)) b k b
           go true t =
-              answered-refused _ ρ b a
+              settled-refused _ ρ b k
               (ap (settle (length b)) (sym (echo4_carried_out r p t))
               ∙ refuse_settles (length b) (echo_plan4 r p).rows _ ρ
-              (ap verdict echo4_rows ∙ sym (refused-first echo_front (echo_rows (datagram (datagram_in4 p))) v ρ (echo4_front t) q))) k
-          go false t = plan_refused (g_pdu_plan4 r p) p _ (g_pdu4_carried_out r p t) (g_pdu4_judged t) ρ b a q k
+              (ap verdict echo4_rows ∙ sym (refused-first echo_front (echo_rows (datagram (datagram_in4 p))) v ρ (echo4_front t) q))) h
+          go false t = plan_refused (g_pdu_plan4 r p) p _ (g_pdu4_carried_out r p t) (g_pdu4_judged t) ρ b k q h
 
       -- from the view: what is sent where the message is no Echo Request
       type-here : (echo : Bool) → is_echo g ≡ echo → is_echo (datagram (datagram_in4 p)) ≡ echo
@@ -181,16 +179,16 @@ module _ (r p : List ℕ) (h : Header4) (arrived : WellFormed4 p h) (g : Datagra
       other4_carried_out t = g_pdu4_carried_out r p (type-here false t)
 
       -- an Echo Request, from row 17 on
-      pub echo4-answered : is_echo g ≡ true → v ≡ Pass → (tos : ℕ) → tos ≡ octet p 1 → {b : List ℕ} {a : Answer} {b' : List ℕ}
-          → Answered (settle (length b) (unless (echo_rows (datagram (drop 20 p))) (Sent (reply_to4 p 20 tos (Rule.hop_limit r))))) b a b'
-          → Answered (settle (length b) (at_d4 r p)) b a b'
+      pub echo4-answered : is_echo g ≡ true → v ≡ Ok tt → (tos : ℕ) → tos ≡ octet p 1 → {b : List ℕ} {k : Result ℕ Refusal} {b' : List ℕ}
+          → Settled (settle (length b) (unless (echo_rows (datagram (drop 20 p))) (Sent (reply_to4 p 20 tos (Rule.hop_limit r))))) b k b'
+          → Settled (settle (length b) (at_d4 r p)) b k b'
       unfolding echo_plan4 echo_reply4
-      echo4-answered t q tos ht {b} k =
+      echo4-answered t q tos ht {b} h =
           let is = type-here true t in
           plan_replied (echo_plan4 r p) p _ echo_front (echo_rows (datagram (datagram_in4 p))) (echo_reply4 r p) (echo4_carried_out r p is)
           echo4_rows (sym (echo4_front is) ∙ q) (all_head (echo_reply4 r p) p)
-          (answered_as _ _ _ _ _
-          (λ i. settle (length b) (unless (echo_rows (datagram (drop 20 p))) (Sent (reply_to4 p 20 (ht i) (Rule.hop_limit r))))) k)
+          (settled_as _ _ _ _ _
+          (λ i. settle (length b) (unless (echo_rows (datagram (drop 20 p))) (Sent (reply_to4 p 20 (ht i) (Rule.hop_limit r))))) h)
 
   -- what is written before the inner packet
   module _ (x : Args) (class : ℕ) (from to source sid : List ℕ)

@@ -14,7 +14,7 @@ use Rattle.rules.specs.Ipv6 as Ipv6
 use Rattle.rules.specs.Srh as Srh
 use Rattle.rules.specs.Gtpu as Gtpu
 use Rattle.rules.specs.Args.{Args}
-use Rattle.rules.specs.Answer.{Row, row, verdict, Sent, Refused, unless, settle}
+use Rattle.rules.specs.Answer.{Row, row, verdict, Sent, unless, settle, Verdict}
 use Rattle.rules.specs.Header.{header}
 use Rattle.rules.specs.Datagram.{datagram, bad_udp, message_rows}
 use Rattle.rules.specs.Echo.{is_echo, echo_rows, echo_reply6}
@@ -26,8 +26,7 @@ use Rattle.rules.specs.Plan.{carry_out, tail_of, head_along, gtp6d_path, at_gtp6
 use Rattle.rules.specs.declared.Header.{Header}
 use Rattle.rules.specs.declared.Datagram.{Datagram}
 use Rattle.rules.specs.declared.Refusal.{Refusal}
-use Rattle.rules.specs.declared.Verdict.{Verdict}
-use Rattle.rules.specs.declared.Verdict.TheVariants.{Pass, Refuse}
+use Rattle.std.specs.Prelude.{Result, Ok, Err}
 use Rattle.rules.proofs.Windows.{window-length}
 use Rattle.rules.proofs.Rows.{pass_none, read}
 use Rattle.rules.proofs.Judging.{refused-first}
@@ -35,9 +34,8 @@ use Rattle.rules.proofs.Paths.{addresses_at-length}
 use Rattle.rules.proofs.Sids.{with_args-length}
 use Rattle.rules.proofs.Messages.{carried_by-fits}
 use Rattle.rules.proofs.Plans.{tail_length, inner_6, all_head, echo6_carried_out, g_pdu6_carried_out}
-use Rattle.answer.specs.declared.Answer.{Answer}
-use Rattle.answer.specs.Answered.{answer_of, Answered}
-use Rattle.answer.proofs.Settling.{answered_as, answered-refused, refuse_settles}
+use Rattle.answer.specs.Answered.{Settled}
+use Rattle.answer.proofs.Settling.{settled_as, settled-refused, refuse_settles}
 use Rattle.answer.proofs.Calling.{Judged, plan_refused, plan_replied}
 use Rattle.echo.specs.Reply.{reply_to6}
 use Rattle.path.specs.declared.PathPlan.{PathPlan}
@@ -66,7 +64,7 @@ upper_least p h e = rw e (go (eqb (Ipv6.next_header p) routing_header))
 
 -- row 9 passed
 pub udp_long : (p : List ℕ) (at : ℕ) (g : Datagram) (v : Verdict) → g ≡ datagram (drop at p) → v ≡ verdict (row (bad_udp g) 9 ∷ [])
-    → v ≡ Pass → at + 8 ≤ length p
+    → v ≡ Ok tt → at + 8 ≤ length p
 unfolding datagram
 udp_long p at g v view e q =
     let n = pass_none (row (bad_udp g) 9 ∷ []) (sym e ∙ q) in
@@ -139,18 +137,18 @@ module _ (e policy : List ℕ) (tail : ℕ) (p : List ℕ) (h : Header) (asked :
           }
 
       -- a refusal, whatever the message is
-      pub gtp6d_refused : (ρ : Refusal) (b : List ℕ) (a : Answer) → v ≡ Refuse ρ → (a ≡ answer_of (Refused ρ)) × (a.size < 65700)
-          → Answered (settle (length b) (at_gtp6d tail e policy p)) b a b
-      gtp6d_refused ρ b a q h = go (is_echo (datagram (datagram_in6 p))) refl
+      pub gtp6d_refused : (ρ : Refusal) (b : List ℕ) (k : Result ℕ Refusal) → v ≡ Err ρ → k ≡ Err ρ
+          → Settled (settle (length b) (at_gtp6d tail e policy p)) b k b
+      gtp6d_refused ρ b k q h = go (is_echo (datagram (datagram_in6 p))) refl
         where
-          go : (echo : Bool) → is_echo (datagram (datagram_in6 p)) ≡ echo → Answered (settle (length b) (at_gtp6d tail e policy p)) b a b
+          go : (echo : Bool) → is_echo (datagram (datagram_in6 p)) ≡ echo → Settled (settle (length b) (at_gtp6d tail e policy p)) b k b
           go true t =
-              answered-refused _ ρ b a
+              settled-refused _ ρ b k
               (ap (settle (length b)) (sym (echo6_carried_out tail e policy p asked.one asked.two t))
               ∙ refuse_settles (length b) (echo_plan6 e p).rows _ ρ
               (ap verdict echo6_rows ∙ sym (refused-first echo_front (echo_rows (datagram (datagram_in6 p))) v ρ (echo6_front t) q))) h
           go false t = plan_refused (g_pdu_plan6 tail e policy p) p _ (g_pdu6_carried_out tail e policy p asked.one asked.two t)
-              (g_pdu6_judged t) ρ b a q h
+              (g_pdu6_judged t) ρ b k q h
 
       -- from the view: what is sent where the message is no Echo Request
       type-here : (echo : Bool) → is_echo g ≡ echo → is_echo (datagram (datagram_in6 p)) ≡ echo
@@ -163,20 +161,20 @@ module _ (e policy : List ℕ) (tail : ℕ) (p : List ℕ) (h : Header) (asked :
       other6_carried_out t = g_pdu6_carried_out tail e policy p asked.one asked.two (type-here false t)
 
       -- an Echo Request, from row 17 on
-      pub echo6-answered : is_echo g ≡ true → v ≡ Pass → {b : List ℕ} {a : Answer} {b' : List ℕ}
-          → Answered (settle (length b) (unless (echo_rows (datagram (drop h.upperAt p)))
-          (Sent (reply_to6 p h.upperAt h.trafficClass (Entry.hop_limit e))))) b a b'
-          → Answered (settle (length b) (at_gtp6d tail e policy p)) b a b'
+      pub echo6-answered : is_echo g ≡ true → v ≡ Ok tt → {b : List ℕ} {k : Result ℕ Refusal} {b' : List ℕ}
+          → Settled (settle (length b) (unless (echo_rows (datagram (drop h.upperAt p)))
+          (Sent (reply_to6 p h.upperAt h.trafficClass (Entry.hop_limit e))))) b k b'
+          → Settled (settle (length b) (at_gtp6d tail e policy p)) b k b'
       unfolding echo_plan6 echo_reply6 header
-      echo6-answered t q {b} k =
+      echo6-answered t q {b} h =
           let is = type-here true t in
           let view = asked.arrived.view in
           plan_replied (echo_plan6 e p) p _ echo_front (echo_rows (datagram (datagram_in6 p))) (echo_reply6 e p)
           (echo6_carried_out tail e policy p asked.one asked.two is) echo6_rows (sym (echo6_front is) ∙ q)
           (all_head (echo_reply6 e p) p)
-          (answered_as _ _ _ _ _
+          (settled_as _ _ _ _ _
           (λ i. settle (length b) (unless (echo_rows (datagram (drop (view i).upperAt p)))
-          (Sent (reply_to6 p (view i).upperAt (view i).trafficClass (Entry.hop_limit e))))) k)
+          (Sent (reply_to6 p (view i).upperAt (view i).trafficClass (Entry.hop_limit e))))) h)
 
     -- what is written before the inner packet
     module _ (x : Args) (to : List ℕ)

@@ -8,6 +8,7 @@ use Rattle.rules.specs.Datagram.{datagram}
 use Rattle.rules.specs.declared.Header.{Header}
 use Rattle.rules.specs.declared.Datagram.{Datagram}
 use Rattle.rules.specs.declared.Header4.{Header4}
+use Rattle.path.specs.declared.PathPlan.{PathPlan}
 
 -- D and Di: of an entry, its policy, a tail of 1 or 2, and a packet with its view
 pub record Gtp6DAsked (e policy : List ℕ) (tail : ℕ) (packet : List ℕ) (h : Header) : Type 0 where
@@ -33,10 +34,13 @@ pub record D4Asked (r packet : List ℕ) (h : Header4) : Type 0 where
   pub sound : SoundRule r
   pub arrived : WellFormed4 packet h
 
--- the writer of its head, for an inner packet of some size past w waypoints, which are those of the rule
-pub record PutD4 (r : List ℕ) (w size room : ℕ) : Type 0 where
-  pub octets : length r ≡ 160
-  pub count : w ≡ Rule.waypoint_count r
-  pub most : w ≤ 7
-  pub field : cond (eqb w 0) size (24 + 16 * w + size) < 65536
-  pub spacious : cond (eqb w 0) 40 (48 + 16 * (w + 1)) ≤ room
+-- the writer of its head: a plan along the waypoints of the rule, with one SID behind them
+pub record PutD4 (r : List ℕ) (plan : PathPlan) (room : ℕ) : Type 0 where
+  pub count : plan.waypoints ≡ Rule.waypoint_count r
+  pub most : plan.waypoints ≤ 7
+  pub from : plan.from ≡ 48
+  pub tail : plan.tail ≡ 1
+  pub hops : plan.hopLimit ≡ Rule.hop_limit r
+  pub end : plan.end ≡ plan.sid
+  pub field : cond (eqb plan.waypoints 0) plan.size (24 + 16 * plan.waypoints + plan.size) < 65536
+  pub spacious : cond (eqb plan.waypoints 0) 40 (48 + 16 * (plan.waypoints + 1)) ≤ room

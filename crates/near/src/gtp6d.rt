@@ -10,15 +10,15 @@ ghost use Rattle.rules.specs.Carried.{datagram_in6};
 ghost use Rattle.rules.specs.Gtp6D.{gtp6_rows, checksum_rows};
 ghost use Rattle.rules.specs.Plan.{tail_at, at_gtp6d};
 ghost use Rattle.args.specs.Value.{value};
-ghost use Rattle.answer.specs.Answered.{Answered};
-ghost use Rattle.path.specs.ByType.{type_rows};
+ghost use Rattle.answer.specs.Answered.{Settled};
+ghost use Rattle.path.specs.ByType.{rows_of};
 ghost use Rattle.near.specs.Asked.{Gtp6DAsked, Viewed, Readable};
 ghost use Rattle.near.specs.Gtp6DPlan.{path_plan};
 
-use answer::Answer;
-use path::{PathPlan, gpdu};
-use records::entry;
-use rules::{Refusal, Verdict, assigned};
+use path::PathPlan;
+use path::gpdu::{self, Message};
+use records::{Entry, Policy, entry};
+use rules::{Refusal, assigned};
 
 // How many addresses stand behind the waypoints of a path, by behaviour.
 pub fn tail_of(behaviour: u8) -> usize
@@ -31,24 +31,24 @@ pub fn tail_of(behaviour: u8) -> usize
 }
 
 // Rows 5, 7 and 8.
-fn judge_outer(h: rules::Header, g: rules::Datagram) -> Verdict
+fn judge_outer(h: rules::Header, g: rules::Datagram) -> Result<(), Refusal>
     ensures { result ≡ verdict (gtp6_rows h g) }
 {
     if ip::bad_chain(h) {
-        return Verdict::Refuse(Refusal::bad_chain());
+        return Err(Refusal::bad_chain());
     }
     if ip::segments_remain(h) {
-        return Verdict::Refuse(Refusal::segments_left());
+        return Err(Refusal::segments_left());
     }
     if gtpu::not_gtpu(h.upper, g) {
-        return Verdict::Refuse(Refusal::upper_layer(h.upperAt));
+        return Err(Refusal::upper_layer(h.upperAt));
     }
-    Verdict::Pass
+    Ok(())
 }
 
 // Row 18, of a datagram with a UDP header.
-fn bad_checksum(e: &[u8], h: rules::Header, packet: &[u8]) -> bool
-    requires { (length e.now ≡ 64) × Readable packet.now h }
+fn bad_checksum(e: &Entry, h: rules::Header, packet: &[u8]) -> bool
+    requires { Readable packet.now h }
     ensures { result ≡ bad_checksum (Entry.zero_allowed e.now) (source packet.now)
         (destination packet.now) (datagram_in6 packet.now) }
 {
@@ -56,80 +56,39 @@ fn bad_checksum(e: &[u8], h: rules::Header, packet: &[u8]) -> bool
     udp::bad_checksum(packet, h.upperAt as usize, allowed)
 }
 
-// Rows 18 and 10, and of a message that is no Echo Request 11 to 15, for an inner packet of `size` octets that begins with `first`, and the
-// length field of what is to be sent.
-fn judge_checked(
-    e: &[u8],
-    h: rules::Header,
-    g: rules::Datagram,
-    packet: &[u8],
-    size: usize,
-    first: u8,
-    field: usize,
-) -> Verdict
-    requires { (length e.now ≡ 64) × Readable packet.now h }
-    ensures { result ≡ verdict (checksum_rows e.now packet.now ++ row (bad_gtpu g) 10
-        ∷ type_rows (Entry.direction e.now) (Entry.session e.now) g size first field) }
+// Rows 18 and 10, and of a message that is no Echo Request 11 to 15.
+fn judge_checked(e: &Entry, h: rules::Header, packet: &[u8], m: &Message) -> Result<(), Refusal>
+    requires { Readable packet.now h }
+    ensures { result ≡ verdict (checksum_rows e.now packet.now ++ row (bad_gtpu m.now.view) 10 ∷ rows_of m.now) }
 {
     if bad_checksum(e, h, packet) {
-        return Verdict::Refuse(Refusal::bad_checksum());
+        return Err(Refusal::bad_checksum());
     }
-    gpdu::judge_message(
-        e[entry::DIRECTION],
-        e[entry::SESSION],
-        g,
-        size,
-        first,
-        field,
-    )
+    m.judge_gtpu()
 }
 
 // Row 9 and those behind it. The checksum is looked at only where the length of its datagram is right.
-fn judge_datagram(
-    e: &[u8],
-    h: rules::Header,
-    g: rules::Datagram,
-    packet: &[u8],
-    size: usize,
-    first: u8,
-    field: usize,
-) -> Verdict
-    requires { (length e.now ≡ 64) × Viewed packet.now h g }
-    ensures { result ≡ verdict (message_rows (checksum_rows e.now packet.now) g ++ type_rows
-        (Entry.direction e.now) (Entry.session e.now) g size first field) }
+fn judge_datagram(e: &Entry, h: rules::Header, packet: &[u8], m: &Message) -> Result<(), Refusal>
+    requires { Viewed packet.now h m.now.view }
+    ensures { result ≡ verdict (message_rows (checksum_rows e.now packet.now) m.now.view ++ rows_of m.now) }
 {
-    let datagram = gtpu::judge_udp(g);
-    match datagram {
-        Verdict::Refuse(r) => Verdict::Refuse(r),
-        Verdict::Pass => judge_checked(e, h, g, packet, size, first, field),
-    }
+    gtpu::judge_udp(m.view)?;
+    judge_checked(e, h, packet, m)
 }
 
 // Rows 5, 7 and 8, and those behind them.
-fn judge(
-    e: &[u8],
-    h: rules::Header,
-    g: rules::Datagram,
-    packet: &[u8],
-    size: usize,
-    first: u8,
-    field: usize,
-) -> Verdict
-    requires { (length e.now ≡ 64) × Viewed packet.now h g }
-    ensures { result ≡ verdict (gtp6_rows h g ++ (message_rows (checksum_rows e.now packet.now) g ++ type_rows
-        (Entry.direction e.now) (Entry.session e.now) g size first field)) }
+fn judge(e: &Entry, h: rules::Header, packet: &[u8], m: &Message) -> Result<(), Refusal>
+    requires { Viewed packet.now h m.now.view }
+    ensures { result ≡ verdict (gtp6_rows h m.now.view ++ (message_rows (checksum_rows e.now packet.now) m.now.view ++ rows_of m.now)) }
 {
-    let outer = judge_outer(h, g);
-    match outer {
-        Verdict::Refuse(r) => Verdict::Refuse(r),
-        Verdict::Pass => judge_datagram(e, h, g, packet, size, first, field),
-    }
+    judge_outer(h, m.view)?;
+    judge_datagram(e, h, packet, m)
 }
 
 // What is to be sent.
 fn plan_of(
-    e: &[u8],
-    policy: &[u8],
+    e: &Entry,
+    policy: &Policy,
     tail: usize,
     class: u8,
     args: args::Args,
@@ -138,13 +97,13 @@ fn plan_of(
     place: usize,
     size: usize,
 ) -> PathPlan
-    requires { (length e.now ≡ 64) × (length policy.now ≡ 288) × SoundPolicy policy.now }
+    requires { SoundPolicy policy.now }
     ensures { result ≡ path_plan tail e.now policy.now class (value args) first to place size }
 {
     let n = octets::wide(policy[records::policy::SID_COUNT]);
-    let last = octets::window16(policy, records::policy::SIDS + 16 * (n - 1));
+    let last = octets::window::<16>(policy, records::policy::SIDS + 16 * (n - 1));
     let sid = args.in_sid(last, policy[records::policy::START]);
-    let source = octets::window16(e, entry::SOURCE);
+    let source = octets::window::<16>(e, entry::SOURCE);
     PathPlan {
         trafficClass: class,
         upper: gpdu::inner_next(e[entry::SESSION], first),
@@ -168,43 +127,46 @@ pub fn at_gtp6d(
     h: rules::Header,
     packet: &[u8],
     out: &mut [u8],
-) -> Answer
+) -> Result<usize, Refusal>
     requires { Gtp6DAsked e.now policy.now tail packet.now h }
-    ensures { Answered (settle (length out.old) (at_gtp6d tail e.now policy.now
+    ensures { Settled (settle (length out.old) (at_gtp6d tail e.now policy.now
         packet.now)) out.old result out.new }
 {
+    let e: &Entry = e.as_array().unwrap();
+    let policy: &Policy = policy.as_array().unwrap();
     let count = octets::wide(policy[records::policy::SID_COUNT]) - 1 + tail;
     let head = 48 + 16 * count;
     let at = h.upperAt as usize;
     let g = gtpu::datagram_at(packet, at);
     let place = at + gtpu::inner_at(g);
-    let size = octets::saturating_sub(packet.len(), place);
+    let size = packet.len().saturating_sub(place);
     let first = octets::octet_or_0(packet, place);
-    let v = judge(e, h, g, packet, size, first, 8 + 16 * count + size);
-    match v {
-        Verdict::Refuse(r) => Answer::refused(r),
-        Verdict::Pass => {
-            if echo::is_echo(g) {
-                return echo::reply6(packet, at, h.trafficClass, e[entry::HOP_LIMIT], out);
-            }
-            let args = gtpu::args_at(packet, at);
-            let to = octets::window16(packet, 24);
-            let plan = plan_of(
-                e,
-                policy,
-                tail,
-                h.trafficClass,
-                args,
-                first,
-                to,
-                place,
-                size,
-            );
-            let a = answer::send(head, packet, place, out);
-            if a.number == 0 {
-                plan.put(policy, out);
-            }
-            a
-        }
+    let message = Message {
+        direction: e[entry::DIRECTION],
+        session: e[entry::SESSION],
+        view: g,
+        size,
+        first,
+        field: 8 + 16 * count + size,
+    };
+    judge(e, h, packet, &message)?;
+    if echo::is_echo(g) {
+        return echo::reply6(packet, at, h.trafficClass, e[entry::HOP_LIMIT], out);
     }
+    let args = gtpu::args_at(packet, at);
+    let to = octets::window::<16>(packet, 24);
+    let plan = plan_of(
+        e,
+        policy,
+        tail,
+        h.trafficClass,
+        args,
+        first,
+        to,
+        place,
+        size,
+    );
+    let sent = answer::send(head, packet, place, out)?;
+    plan.put(policy, out);
+    Ok(sent)
 }

@@ -1,12 +1,11 @@
--- Laws of numbers that stand in octets: read in two parts, bounded, and put together by shifts and `|`.
+-- Laws of numbers that stand in octets: read in two parts, and bounded.
 use mathlib.Core.Path.{◌≡◌, refl}
 use mathlib.Core.List.{List}
-use Prim.Native.Nat.{ℕ, zero, suc, ◌+◌, ◌*◌, ◌^◌, ◌%◌, ◌<◌}
-use native.Mathlib.Nat.{add-zero, add-suc, add_assoc, add-mul, mul_assoc, mul-suc, pow-suc, mod-eq_of_lt, mul-lt-mul_of_pos_right}
+use Prim.Native.Nat.{ℕ, zero, suc, ◌+◌, ◌*◌, ◌^◌, ◌<◌}
+use native.Mathlib.Nat.{add-zero, add-suc, add_assoc, mul_assoc, mul-suc, pow-suc}
 use native.Mathlib.Omega.{arith}
 use lib.Dec.{lit<}
-use lib.Bits.{bit_or, or_shifted}
-use lib.Pow.{pow-add, pow_pos}
+use lib.Pow.{pow-add}
 use Rattle.rules.specs.Octets.{Octets, read16, number}
 
 -- two octets are a 16-bit number
@@ -33,15 +32,3 @@ number_small s h i zero = lit< tt
 number_small s h i (suc n) =
     let l : number s i n < 2 ^ (8 * n) = number_small s h i n in
     rw (mul-suc 8 n, pow-add 2 (8 * n) 8) (omega (arith, h (i + n)))
-
--- the first octet, an octet x below those before it, and the last, which is not shifted
-pub join_first : (x k : ℕ) → x * 2 ^ k < 2 ^ 64 → x * 2 ^ k % 2 ^ 64 ≡ x * 2 ^ k
-join_first x k f = mod-eq_of_lt f
-
-pub join : (h x k : ℕ) → x < 256 → x * 2 ^ k < 2 ^ 64 → bit_or (h * 2 ^ (8 + k)) (x * 2 ^ k % 2 ^ 64) ≡ (h * 256 + x) * 2 ^ k
-join h x k l f =
-    let b : x * 2 ^ k < 2 ^ (8 + k) = rw (pow-add 2 8 k) (mul-lt-mul_of_pos_right l (pow_pos k)) in
-    rw (mod-eq_of_lt f, or_shifted h (8 + k) (x * 2 ^ k) b, pow-add 2 8 k, add-mul (h * 256) x (2 ^ k), mul_assoc h 256 (2 ^ k)) refl
-
-pub join_last : (h x : ℕ) → x < 256 → bit_or (h * 256) x ≡ h * 256 + x
-join_last h x l = or_shifted h 8 x l

@@ -2,18 +2,18 @@
 #![tactic(auto)]
 
 ghost use Rattle.std.specs.Prelude.{◌≡◌, ◌+◌, ◌-◌, ◌*◌, ◌≤◌, ◌<◌, length, drop};
-ghost use Rattle.rules.specs.Octets.{octet, read16, window, splice};
+ghost use Rattle.rules.specs.Octets.{octet, read16, window};
 
 pub fn octet_or_0(s: &[u8], at: usize) -> u8
     ensures { result ≡ octet s.now at }
 {
-    if at < s.len() { s[at] } else { 0 }
+    s.get(at).copied().unwrap_or(0)
 }
 
 pub fn join16(hi: u8, lo: u8) -> u16
     ensures { (result ≡ hi * 256 + lo) × (result < 65536) }
 {
-    (hi as u16) * 256 + (lo as u16)
+    u16::from_be_bytes([hi, lo])
 }
 
 // The 16-bit number at octet i of what begins at octet `at`, a datagram's front.
@@ -28,57 +28,14 @@ pub fn number_at(s: &[u8], at: usize, i: usize) -> u16
 pub fn wide(x: u8) -> usize
     ensures { (result ≡ x) × (result < 256) }
 {
-    x as usize
+    usize::from(x)
 }
 
 // The difference, 0 where b is larger.
 pub fn saturating_sub(a: usize, b: usize) -> usize
     ensures { result ≡ a - b }
 {
-    if b < a { a - b } else { 0 }
-}
-
-// The octet i places past at, whatever at and i are.
-fn octet_past(s: &[u8], at: usize, i: usize) -> u8
-    ensures { result ≡ octet s.now (at + i) }
-{
-    if s.len() <= at {
-        return 0;
-    }
-    if s.len() - at <= i {
-        return 0;
-    }
-    s[at + i]
-}
-
-// All of out from s, from at on.
-fn fill(out: &mut [u8], s: &[u8], at: usize)
-    ensures { out.new ≡ window s.now at (length out.old) }
-{
-    let mut i = 0;
-    while i < out.len() {
-        out[i] = octet_past(s, at, i);
-        i += 1;
-    }
-}
-
-// Four octets by value.
-pub fn window4(s: &[u8], at: usize) -> [u8; 4]
-    ensures { result ≡ window s.now at 4 }
-{
-    let mut a = [0u8; 4];
-    fill(&mut a, s, at);
-    a
-}
-
-// What is left of s from at on, at the front of out.
-fn copy_rest(out: &mut [u8], s: &[u8], at: usize)
-    requires { length s.now - at ≤ length out.old }
-    ensures { out.new ≡ splice out.old 0 (drop at s.now) }
-{
-    if at < s.len() {
-        copying::copy_octets(out, 0, &s[at..]);
-    }
+    a.saturating_sub(b)
 }
 
 // Sixteen octets where they lie.
@@ -90,66 +47,34 @@ pub fn sixteen(s: &[u8], at: usize) -> &[u8]
     &s[at..past]
 }
 
-// Sixteen octets by value.
-pub fn window16(s: &[u8], at: usize) -> [u8; 16]
-    ensures { result ≡ window s.now at 16 }
+// N octets by value, where as many are there. Of 2, 4, 8 and 16 it compiles to one load.
+pub fn array<const N: usize>(s: &[u8], at: usize) -> [u8; N]
+    requires { at + N ≤ length s.now }
+    ensures { result ≡ window s.now at N }
 {
-    let mut a = [0u8; 16];
-    if saturating_sub(s.len(), at) < 16 {
-        copy_rest(&mut a, s, at);
-        return a;
-    }
-    let end = at + 16;
-    copying::copy_octets(&mut a, 0, &s[at..end]);
+    let past = at + N;
+    let mut a = [0; N];
+    a.copy_from_slice(&s[at..past]);
     a
 }
 
-// Twenty octets by value.
-pub fn window20(s: &[u8], at: usize) -> [u8; 20]
-    ensures { result ≡ window s.now at 20 }
+// What is left of s from at on.
+fn left(s: &[u8], at: usize) -> &[u8]
+    ensures { result.now ≡ drop at s.now }
 {
-    let mut a = [0u8; 20];
-    if s.len() < 20 {
-        copy_rest(&mut a, s, at);
-        return a;
-    }
-    if s.len() - 20 < at {
-        copy_rest(&mut a, s, at);
-        return a;
-    }
-    let end = at + 20;
-    copying::copy_octets(&mut a, 0, &s[at..end]);
-    a
+    &s[at.min(s.len())..]
 }
 
-// Twenty-four octets by value.
-pub fn window24(s: &[u8], at: usize) -> [u8; 24]
-    ensures { result ≡ window s.now at 24 }
+// N octets by value.
+pub fn window<const N: usize>(s: &[u8], at: usize) -> [u8; N]
+    ensures { result ≡ window s.now at N }
 {
-    let mut a = [0u8; 24];
-    if saturating_sub(s.len(), at) < 24 {
-        copy_rest(&mut a, s, at);
+    let rest = left(s, at);
+    let mut a = [0; N];
+    if rest.len() < N {
+        copying::copy_to(&mut a, 0, rest);
         return a;
     }
-    let end = at + 24;
-    copying::copy_octets(&mut a, 0, &s[at..end]);
-    a
-}
-
-// Forty-eight octets by value.
-pub fn window48(s: &[u8], at: usize) -> [u8; 48]
-    ensures { result ≡ window s.now at 48 }
-{
-    let mut a = [0u8; 48];
-    if s.len() < 48 {
-        copy_rest(&mut a, s, at);
-        return a;
-    }
-    if s.len() - 48 < at {
-        copy_rest(&mut a, s, at);
-        return a;
-    }
-    let end = at + 48;
-    copying::copy_octets(&mut a, 0, &s[at..end]);
+    copying::copy_to(&mut a, 0, &rest[..N]);
     a
 }

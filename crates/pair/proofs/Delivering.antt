@@ -25,7 +25,7 @@ use Rattle.rules.specs.D4.{d4_packet, d4_sid}
 use Rattle.rules.specs.E4.{e4_packet}
 use Rattle.rules.specs.Trip.{v4, v6, Stop, call}
 use Rattle.rules.specs.Demand3.{AtEntry, AtRule, AtWaypoints, Room, policy_of, Matching6, Matching4}
-use Rattle.rules.specs.declared.Found.TheVariants.{At}
+use Rattle.std.specs.Prelude.{Some}
 use Rattle.rules.proofs.Windows.{window-length, octets-window, octets-drop}
 use Rattle.rules.proofs.Rows.{None, read}
 use Rattle.rules.proofs.Entries.{at_di_lem, sent-entry}
@@ -80,7 +80,7 @@ right-direction direction u n = omega (read, n)
 
 module _ (near : Stop) (ss : List Stop) (far : Stop) (ws : List (List ℕ)) (i j : ℕ) (c : Compatible6 near.table ws far.table i j)
     (on : Octets near.table) (of : Octets far.table) (vn : near.version ≡ v6) (us : Use ss ws) (vf : far.version ≡ v6)
-    (p : List ℕ) (o : Octets p) (m : match_entry near.table (Ipv6.destination p) ≡ At i)
+    (p : List ℕ) (o : Octets p) (m : match_entry near.table (Ipv6.destination p) ≡ Some i)
     (type : Gtpu.message_type (datagram_in6 p) ≡ g_pdu) (x : List ℕ) (sent : call near p ≡ Sent x) where
   enters6 : AtEntry near (Ipv6.destination p) end_m_gtp6d_di i
   enters6 = record { call = vn; octets = on; sound = c.fits.near_sound; matches = m; kind = c.fits.enters }
@@ -138,7 +138,7 @@ module _ (near : Stop) (ss : List Stop) (far : Stop) (ws : List (List ℕ)) (i j
 
 module _ (near : Stop) (ss : List Stop) (far : Stop) (ws : List (List ℕ)) (k j : ℕ) (c : Compatible4 near.table ws far.table k j)
     (on : Octets near.table) (of : Octets far.table) (vn : near.version ≡ v4) (us : Use ss ws) (vf : far.version ≡ v6)
-    (p : List ℕ) (o : Octets p) (m : match_rule near.table (Ipv4.destination p) ≡ At k)
+    (p : List ℕ) (o : Octets p) (m : match_rule near.table (Ipv4.destination p) ≡ Some k)
     (type : Gtpu.message_type (datagram_in4 p) ≡ g_pdu) (x : List ℕ) (sent : call near p ≡ Sent x) where
   enters4 : AtRule near (Ipv4.destination p) k
   enters4 = record { call = vn; octets = on; sound = c.fits.near_sound; matches = m }
@@ -170,7 +170,7 @@ module _ (near : Stop) (ss : List Stop) (far : Stop) (ws : List (List ℕ)) (k j
     under = (matched_rule near.table (Ipv4.destination p) k m).hit;
   }
 
-  leaves4 : match_entry far.table (d4_sid (rule_at near.table k) (carried4 p)) ≡ At j
+  leaves4 : match_entry far.table (d4_sid (rule_at near.table k) (carried4 p)) ≡ Some j
   unfolding d4_sid
   leaves4 = c.fits.matches (carried4 p).destination (carried4 p).args under4 writable4
 

@@ -21,7 +21,7 @@ use Rattle.rules.specs.D4.{d4_packet}
 use Rattle.rules.specs.E4.{e4_packet}
 use Rattle.rules.specs.Trip.{v4, v6, Stop, call}
 use Rattle.rules.specs.Demand3.{Room, policy_of, Delivers6, Delivers4}
-use Rattle.rules.specs.declared.Found.TheVariants.{At}
+use Rattle.std.specs.Prelude.{Some}
 use Rattle.rules.proofs.Demand3v6.{demand3_ipv6}
 use Rattle.rules.proofs.Demand3v4.{demand3_ipv4}
 use Rattle.pair.specs.Fit.{FitWaypoints, Use, Compatible6, Compatible4}
@@ -45,7 +45,7 @@ all_fit (t ∷ ts) (sid ∷ sids) n = (mismatch_fits-waypoint t sid n.0, all_fit
 -- every G-PDU that the near gateway sends on at Di entry i is delivered at entry j of the far one, where the buffers have room
 abbrev pub DeliversAll6 : (near : Stop) (ss : List Stop) (far : Stop) (i j : ℕ) → Type 0
 DeliversAll6 near ss far i j =
-    (p : List ℕ) → Octets p → match_entry near.table (Ipv6.destination p) ≡ At i → Gtpu.message_type (datagram_in6 p) ≡ g_pdu
+    (p : List ℕ) → Octets p → match_entry near.table (Ipv6.destination p) ≡ Some i → Gtpu.message_type (datagram_in6 p) ≡ g_pdu
     → (x : List ℕ) → call near p ≡ Sent x
     → Room near ss far (length (di_packet (entry_at near.table i) (policy_of near i) (carried6 p)))
     (length (e6_packet (entry_at far.table j) (carried6 p)))
@@ -54,7 +54,7 @@ DeliversAll6 near ss far i j =
 -- the same at rule k
 abbrev pub DeliversAll4 : (near : Stop) (ss : List Stop) (far : Stop) (k j : ℕ) → Type 0
 DeliversAll4 near ss far k j =
-    (p : List ℕ) → Octets p → match_rule near.table (Ipv4.destination p) ≡ At k → Gtpu.message_type (datagram_in4 p) ≡ g_pdu
+    (p : List ℕ) → Octets p → match_rule near.table (Ipv4.destination p) ≡ Some k → Gtpu.message_type (datagram_in4 p) ≡ g_pdu
     → (x : List ℕ) → call near p ≡ Sent x
     → Room near ss far (length (d4_packet (rule_at near.table k) (carried4 p))) (length (e4_packet (entry_at far.table j) (carried4 p)))
     → Delivers4 near ss far p k j

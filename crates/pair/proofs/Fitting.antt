@@ -16,8 +16,7 @@ use Rattle.rules.specs.Policy as Policy
 use Rattle.rules.specs.Sound.{sound, entry_limit}
 use Rattle.rules.specs.Fault.{told, entry_record}
 use Rattle.rules.specs.Match.{match_entry}
-use Rattle.rules.specs.declared.Found.{Found}
-use Rattle.rules.specs.declared.Found.TheVariants.{At, Nothing}
+use Rattle.std.specs.Prelude.{Option, Some, None}
 use Rattle.rules.proofs.Windows.{window-length, octets-window}
 use Rattle.rules.proofs.Conditions.{sound_parts}
 use Rattle.rules.proofs.Faults.{none_told}
@@ -44,9 +43,9 @@ told-nothing : (kind index condition : ℕ) → condition ≡ 0 → told kind in
 told-nothing kind index condition h =
     eqb-true (told kind index condition) 0 (none_told kind index condition ∙ eq-eqb condition 0 h)
 
-reached_fits : (between : ℕ → ℕ) (f : Found) → at_reached between f ≡ 0 → (j : ℕ) × ((f ≡ At j) × (between j ≡ 0))
-reached_fits between Nothing h = absurd (omega arith)
-reached_fits between (At j) h = (j, (refl, untold entry_record j (between j) h))
+reached_fits : (between : ℕ → ℕ) (f : Option ℕ) → at_reached between f ≡ 0 → (j : ℕ) × ((f ≡ Some j) × (between j ≡ 0))
+reached_fits between None h = absurd (omega arith)
+reached_fits between (Some j) h = (j, (refl, untold entry_record j (between j) h))
 
 -- RECORDS OF A SOUND TABLE
 
@@ -78,7 +77,7 @@ rule-p t k s l = (sound-rule (rule_at t k) ((sound_parts entry_limit t s).rule k
 module _ (near far : List ℕ) (i : ℕ) (on : Octets near) (of : Octets far) where
   -- of the entry j that is reached
   pub between_fits6 : (j : ℕ) → sound near ≡ true → sound far ≡ true → i < entries near → Entry.behaviour (entry_at near i) ≡ end_m_gtp6d_di
-      → reach6 far (Entry.direction (entry_at near i)) (Policy.last_sid (policy_in near i)) (Policy.start (policy_in near i)) ≡ At j
+      → reach6 far (Entry.direction (entry_at near i)) (Policy.last_sid (policy_in near i)) (Policy.start (policy_in near i)) ≡ Some j
       → between6 (entry_at near i) (policy_in near i) (entry_at far j) ≡ 0 → Fits6 near far i j
   between_fits6 j sn sf l k r h =
       let e = entry_at near i in
@@ -130,7 +129,7 @@ module _ (near far : List ℕ) (i : ℕ) (on : Octets near) (of : Octets far) wh
       let e = entry_at near i in
       let policy = policy_in near i in
       let p = di-policy near i f.near_sound f.exists f.enters in
-      let r : reach6 far (Entry.direction e) (Policy.last_sid policy) (Policy.start policy) ≡ At j =
+      let r : reach6 far (Entry.direction e) (Policy.last_sid policy) (Policy.start policy) ≡ Some j =
       matches_reach6 far (Entry.direction e) (Policy.last_sid policy) (Policy.start policy) of f.far_sound (sid_octets near on i)
       (sid_size near on i) p.start j f.matches in
       let n : Policy.sid_count policy - 1 < Entry.hop_limit e =
@@ -148,7 +147,7 @@ module _ (near far : List ℕ) (i : ℕ) (on : Octets near) (of : Octets far) wh
 -- OVER IPV4
 
 module _ (near far : List ℕ) (k : ℕ) (on : Octets near) (of : Octets far) where
-  pub between_fits4 : (j : ℕ) → sound near ≡ true → sound far ≡ true → k < rules near → reach4 far (rule_at near k) ≡ At j
+  pub between_fits4 : (j : ℕ) → sound near ≡ true → sound far ≡ true → k < rules near → reach4 far (rule_at near k) ≡ Some j
       → between4 (rule_at near k) (entry_at far j) ≡ 0 → Fits4 near far k j
   between_fits4 j sn sf l e h =
       let r = rule_at near k in
@@ -189,7 +188,7 @@ module _ (near far : List ℕ) (k : ℕ) (on : Octets near) (of : Octets far) wh
   unfolding mismatch4
   fits-mismatch4 j f =
       let r = rule_at near k in
-      let e : reach4 far r ≡ At j =
+      let e : reach4 far r ≡ Some j =
       matches_reach4 far r of f.far_sound (rule-octets near on k) (rule-p near k f.near_sound f.exists) j f.matches in
       let n : Rule.waypoint_count r < Rule.hop_limit r = rw (addresses_at-length r 48 (Rule.waypoint_count r)) at f.hopLimit in
       rw (f.near_sound, f.far_sound, lt-ltb k (rules near) f.exists, e)
@@ -206,10 +205,10 @@ module _ (near far : List ℕ) (k : ℕ) (on : Octets near) (of : Octets far) wh
 -- AT A WAYPOINT
 
 module _ (t sid : List ℕ) where
-  matched_fits : (f : Found) → match_entry t sid ≡ f → at_matched t f ≡ 0
-      → (i : ℕ) × ((match_entry t sid ≡ At i) × (Entry.behaviour (entry_at t i) ≡ end))
-  matched_fits Nothing e h = absurd (omega arith)
-  matched_fits (At i) e h =
+  matched_fits : (f : Option ℕ) → match_entry t sid ≡ f → at_matched t f ≡ 0
+      → (i : ℕ) × ((match_entry t sid ≡ Some i) × (Entry.behaviour (entry_at t i) ≡ end))
+  matched_fits None e h = absurd (omega arith)
+  matched_fits (Some i) e h =
       let b = untold entry_record i (unless (eqb (Entry.behaviour (entry_at t i)) end) 16 0) h in
       (i, (e, eqb-true _ _ (holds (eqb (Entry.behaviour (entry_at t i)) end) 15 0 b).0))
 

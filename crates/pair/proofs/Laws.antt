@@ -16,7 +16,7 @@ use Rattle.rules.specs.Entry as Entry
 use Rattle.rules.specs.Policy as Policy
 use Rattle.rules.specs.Sound.{header_sound, sound, entry_limit}
 use Rattle.rules.specs.Match.{match_entry}
-use Rattle.rules.specs.declared.Found.{Found}
+use Rattle.std.specs.Prelude.{Option}
 use Rattle.rules.proofs.Windows.{window-length, octet-window}
 use Rattle.rules.proofs.Conditions.{conjunct, sound_parts}
 use Rattle.table.proofs.Bounds.{policy_within}
@@ -40,14 +40,6 @@ module _ (t : List ℕ) (i : ℕ) (s : sound t ≡ true) (l : i < entries t) (b 
 -- MISMATCHES
 
 module _ (near far : List ℕ) (i : ℕ) where
-  pub near_unsound6_lem : sound near ≡ false → 1 ≡ mismatch6 near far i
-  unfolding mismatch6
-  near_unsound6_lem h = rw h refl
-
-  pub far_unsound6_lem : sound near ≡ true → sound far ≡ false → 2 ≡ mismatch6 near far i
-  unfolding mismatch6
-  far_unsound6_lem h g = rw (h, g) refl
-
   pub no_entry6_lem : sound near ≡ true → sound far ≡ true → entries near ≤ i → 3 ≡ mismatch6 near far i
   unfolding mismatch6
   no_entry6_lem h g l = rw (h, g, le-ltb i (entries near) l) refl
@@ -63,14 +55,6 @@ module _ (near far : List ℕ) (i : ℕ) where
   unfolding mismatch6
   at_far6_lem h g l b e policy he hy =
       rw (h, g, lt-ltb i (entries near) l, eq-eqb (Entry.behaviour (entry_at near i)) end_m_gtp6d_di b, he, hy) refl
-
-  pub near_unsound4_lem : sound near ≡ false → 1 ≡ mismatch4 near far i
-  unfolding mismatch4
-  near_unsound4_lem h = rw h refl
-
-  pub far_unsound4_lem : sound near ≡ true → sound far ≡ false → 2 ≡ mismatch4 near far i
-  unfolding mismatch4
-  far_unsound4_lem h g = rw (h, g) refl
 
   pub no_rule4 : sound near ≡ true → sound far ≡ true → rules near ≤ i → 3 ≡ mismatch4 near far i
   unfolding mismatch4
@@ -90,12 +74,13 @@ module _ (t sid : List ℕ) where
   unfolding mismatch_waypoint
   no_sid h n = rw (h, ne_eqb (length sid) 16 n) refl
 
-  pub at_waypoint_lem : sound t ≡ true → length sid ≡ 16 → (f : Found) → match_entry t sid ≡ f → at_matched t f ≡ mismatch_waypoint t sid
+  pub at_waypoint_lem : sound t ≡ true → length sid ≡ 16 → (f : Option ℕ) → match_entry t sid ≡ f → at_matched t f ≡ mismatch_waypoint t sid
   unfolding mismatch_waypoint
   at_waypoint_lem h l f m = rw (h, eq-eqb (length sid) 16 l, m) refl
 
 -- a SID lent as sixteen octets, and what is found for them
-pub matched : (t sid w : List ℕ) {f g : Found} → length sid ≡ 16 → w ≡ window sid 0 16 → f ≡ match_entry t w → f ≡ g → match_entry t sid ≡ g
+pub matched : (t sid w : List ℕ) {f g : Option ℕ} → length sid ≡ 16 → w ≡ window sid 0 16 → f ≡ match_entry t w
+    → f ≡ g → match_entry t sid ≡ g
 matched t sid w l e m q = ap (match_entry t) (sym (e ∙ whole)) ∙ sym m ∙ q
   where
     whole : window sid 0 16 ≡ sid

@@ -16,8 +16,7 @@ use Rattle.rules.specs.Policy as Policy
 use Rattle.rules.specs.Sound.{sound}
 use Rattle.rules.specs.Fault.{told, entry_record}
 use Rattle.rules.specs.Match.{match_entry}
-use Rattle.rules.specs.declared.Found.{Found}
-use Rattle.rules.specs.declared.Found.TheVariants.{At, Nothing}
+use Rattle.std.specs.Prelude.{Option, Some, None}
 use Rattle.rules.proofs.Paths.{addresses_at-length}
 use Rattle.reach.specs.Reach.{own_args, reach6, reach4}
 use Rattle.reach.proofs.Own.{own_writable}
@@ -39,10 +38,10 @@ asked : (P : ℕ → Type 0) (b : Bool) (number behind : ℕ) → (b ≡ false �
 asked P true number behind fails goes_on = goes_on refl
 asked P false number behind fails goes_on = fails refl
 
-found : (P : ℕ → Type 0) (between : ℕ → ℕ) (f : Found) → (f ≡ Nothing → P 5) → ((j : ℕ) → f ≡ At j
+found : (P : ℕ → Type 0) (between : ℕ → ℕ) (f : Option ℕ) → (f ≡ None → P 5) → ((j : ℕ) → f ≡ Some j
     → P (told entry_record j (between j))) → P (at_reached between f)
-found P between Nothing none at = none refl
-found P between (At j) none at = at j refl
+found P between None none at = none refl
+found P between (Some j) none at = at j refl
 
 -- the number of a condition with an entry, and of none
 named : (condition j : ℕ) → told entry_record j (suc condition) ≡ naming (suc condition) j
@@ -63,7 +62,7 @@ module _ (near far : List ℕ) (i : ℕ) (on : Octets near) (of : Octets far) wh
   policy = policy_in near i
 
   leads6 : (a : Asked6 near far i) (j : ℕ)
-      → reach6 far (Entry.direction e) (Policy.last_sid policy) (Policy.start policy) ≡ At j → Leads6 near far i j
+      → reach6 far (Entry.direction e) (Policy.last_sid policy) (Policy.start policy) ≡ Some j → Leads6 near far i j
   leads6 a j r = record {
     asked = a;
     args = own_args (Entry.direction e) (Entry.prefix (entry_at far j)) (Policy.start policy);
@@ -74,7 +73,7 @@ module _ (near far : List ℕ) (i : ℕ) (on : Octets near) (of : Octets far) wh
   }
 
   -- 6 to 12
-  said6 : (a : Asked6 near far i) (j : ℕ) → reach6 far (Entry.direction e) (Policy.last_sid policy) (Policy.start policy) ≡ At j
+  said6 : (a : Asked6 near far i) (j : ℕ) → reach6 far (Entry.direction e) (Policy.last_sid policy) (Policy.start policy) ≡ Some j
       → Says6 near far i (told entry_record j (between6 e policy (entry_at far j)))
   said6 a j r =
       let f = entry_at far j in
@@ -146,7 +145,7 @@ module _ (near far : List ℕ) (k : ℕ) (on : Octets near) (of : Octets far) wh
   abbrev r : List ℕ
   r = rule_at near k
 
-  leads4 : sound near ≡ true → sound far ≡ true → k < rules near → (j : ℕ) → reach4 far r ≡ At j → Leads4 near far k j
+  leads4 : sound near ≡ true → sound far ≡ true → k < rules near → (j : ℕ) → reach4 far r ≡ Some j → Leads4 near far k j
   leads4 sn sf l j e =
       let or = rule-octets near on k in
       let hp = rule-p near k sn l in
@@ -161,7 +160,7 @@ module _ (near far : List ℕ) (k : ℕ) (on : Octets near) (of : Octets far) wh
         matches = reach_matches_own4 far r of sf or hp j e;
       }
 
-  said4 : sound near ≡ true → sound far ≡ true → k < rules near → (j : ℕ) → reach4 far r ≡ At j
+  said4 : sound near ≡ true → sound far ≡ true → k < rules near → (j : ℕ) → reach4 far r ≡ Some j
       → Says4 near far k (told entry_record j (between4 r (entry_at far j)))
   said4 sn sf l j e =
       let f = entry_at far j in
@@ -239,9 +238,9 @@ module _ (near far : List ℕ) (k : ℕ) (on : Octets near) (of : Octets far) wh
 -- AT A WAYPOINT
 
 module _ (t sid : List ℕ) where
-  said_matched : sound t ≡ true → length sid ≡ 16 → (f : Found) → match_entry t sid ≡ f → SaysWaypoint t sid (at_matched t f)
-  said_matched s l Nothing m = no_entry_at refl s l m
-  said_matched s l (At i) m =
+  said_matched : sound t ≡ true → length sid ≡ 16 → (f : Option ℕ) → match_entry t sid ≡ f → SaysWaypoint t sid (at_matched t f)
+  said_matched s l None m = no_entry_at refl s l m
+  said_matched s l (Some i) m =
       asked (λ x. SaysWaypoint t sid (told entry_record i x)) (eqb (Entry.behaviour (entry_at t i)) end) 16 0
       (λ h. kind_at i (named 15 i) s l m (eqb-false _ _ h))
       (λ h. fit_at (none i) i (record { table_sound = s; size = l; matches = m; kind = eqb-true _ _ h }))

@@ -1,6 +1,6 @@
 -- Tables that fit: the premises of docs/RULES.md, Trip, that speak of tables, the hop limit among them, with no packet in them, for every
 -- Args that can be written and over IPv4 for every destination under the rule's prefix.
-use Rattle.std.specs.Prelude.{◌≡◌, true, List, [], ◌∷◌, ℕ, ◌<◌, length}
+use Rattle.std.specs.Prelude.{◌≡◌, true, List, [], ◌∷◌, ℕ, ◌<◌, length, Some}
 use Rattle.rules.specs.Octets.{Octets}
 use Rattle.rules.specs.Assigned.{end, end_m_gtp6d_di, end_m_gtp6e, end_m_gtp4e}
 use Rattle.rules.specs.Table.{entries, rules, entry_at, rule_at, policy_at}
@@ -12,7 +12,6 @@ use Rattle.rules.specs.Match.{match_entry}
 use Rattle.rules.specs.Args.{Args}
 use Rattle.rules.specs.D.{last_with_args}
 use Rattle.rules.specs.Trip.{v6, Stop}
-use Rattle.rules.specs.declared.Found.TheVariants.{At}
 use Rattle.reach.specs.Reach.{Writable, Under, rule_sid}
 
 -- NEAR AND FAR
@@ -27,7 +26,7 @@ pub record Fits6 (near far : List ℕ) (i j : ℕ) : Type 0 where
   pub far_sound : sound far ≡ true
   pub exists : i < entries near
   pub enters : Entry.behaviour (entry_at near i) ≡ end_m_gtp6d_di
-  pub matches : (x : Args) → Writable (Entry.direction (entry_at near i)) x → match_entry far (last_with_args (policy_in near i) x) ≡ At j
+  pub matches : (x : Args) → Writable (Entry.direction (entry_at near i)) x → match_entry far (last_with_args (policy_in near i) x) ≡ Some j
   pub leaves : Entry.behaviour (entry_at far j) ≡ end_m_gtp6e
   pub direction : Entry.direction (entry_at far j) ≡ Entry.direction (entry_at near i)
   pub session : Entry.session (entry_at far j) ≡ Entry.session (entry_at near i)
@@ -40,7 +39,7 @@ pub record Fits4 (near far : List ℕ) (k j : ℕ) : Type 0 where
   pub far_sound : sound far ≡ true
   pub exists : k < rules near
   pub matches : (d : List ℕ) (x : Args) → Under (rule_at near k) d → Writable (Rule.direction (rule_at near k)) x
-      → match_entry far (rule_sid (rule_at near k) d x) ≡ At j
+      → match_entry far (rule_sid (rule_at near k) d x) ≡ Some j
   pub leaves : Entry.behaviour (entry_at far j) ≡ end_m_gtp4e
   pub direction : Entry.direction (entry_at far j) ≡ Rule.direction (rule_at near k)
   pub session : Entry.session (entry_at far j) ≡ Rule.session (rule_at near k)
@@ -54,7 +53,7 @@ pub record Fits4 (near far : List ℕ) (k j : ℕ) : Type 0 where
 pub record FitsWaypoint (t sid : List ℕ) (i : ℕ) : Type 0 where
   pub table_sound : sound t ≡ true
   pub size : length sid ≡ 16
-  pub matches : match_entry t sid ≡ At i
+  pub matches : match_entry t sid ≡ Some i
   pub kind : Entry.behaviour (entry_at t i) ≡ end
 
 -- a table for each waypoint, in order of travel

@@ -1,3 +1,4 @@
 pub mod Fit
 pub mod Mismatch
 pub mod Says
+pub mod Results

@@ -1,6 +1,6 @@
 -- Whether tables fit, as a number: 0, or the first condition that fails. Its place in bits 0 to 7; where an entry of the far table, or
 -- of the waypoint's, is concerned, the kind of record (entry) in bits 8 to 15 and the entry's index in bits 16 to 31, as in a fault.
-use Rattle.std.specs.Prelude.{Bool, cond, List, ℕ, ◌-◌, eqb, ltb, length}
+use Rattle.std.specs.Prelude.{Bool, cond, List, ℕ, ◌-◌, eqb, ltb, length, Option, Some, None}
 use Rattle.rules.specs.Assigned.{end, end_m_gtp6d_di, end_m_gtp6e, end_m_gtp4e}
 use Rattle.rules.specs.Table.{entries, rules, entry_at, rule_at}
 use Rattle.rules.specs.Entry as Entry
@@ -9,8 +9,6 @@ use Rattle.rules.specs.Policy as Policy
 use Rattle.rules.specs.Sound.{sound}
 use Rattle.rules.specs.Fault.{told, entry_record}
 use Rattle.rules.specs.Match.{match_entry}
-use Rattle.rules.specs.declared.Found.{Found}
-use Rattle.rules.specs.declared.Found.TheVariants.{At, Nothing}
 use Rattle.reach.specs.Reach.{reach6, reach4}
 use Rattle.pair.specs.Fit.{policy_in}
 
@@ -40,9 +38,9 @@ between4 r f =
     (unless (ltb (Rule.waypoint_count r) (Rule.hop_limit r)) 12 0)))))
 
 -- 5: no entry is reached; else what is said of the entry that is
-abbrev pub at_reached : (between : ℕ → ℕ) → Found → ℕ
-at_reached between Nothing = 5
-at_reached between (At j) = told entry_record j (between j)
+abbrev pub at_reached : (between : ℕ → ℕ) → Option ℕ → ℕ
+at_reached between None = 5
+at_reached between (Some j) = told entry_record j (between j)
 
 abbrev pub at_far6 : (e policy far : List ℕ) → ℕ
 at_far6 e policy far =
@@ -70,9 +68,9 @@ mismatch4 near far k =
 -- A WAYPOINT
 
 -- 15: no entry matches; 16: the longest match is a waypoint entry
-abbrev pub at_matched : (t : List ℕ) → Found → ℕ
-at_matched t Nothing = 15
-at_matched t (At i) = told entry_record i (unless (eqb (Entry.behaviour (entry_at t i)) end) 16 0)
+abbrev pub at_matched : (t : List ℕ) → Option ℕ → ℕ
+at_matched t None = 15
+at_matched t (Some i) = told entry_record i (unless (eqb (Entry.behaviour (entry_at t i)) end) 16 0)
 
 -- 13: the table is sound; 14: the SID has sixteen octets
 unfoldable pub mismatch_waypoint : (t sid : List ℕ) → ℕ

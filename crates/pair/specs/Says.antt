@@ -1,6 +1,6 @@
 -- What a mismatch says, a second time: each number in plain terms, apart from the test. The conditions before it hold, it does not, and an
 -- entry of the far table that is named is the longest match for some Args that can be written, over IPv4 for some destination too.
-use Rattle.std.specs.Prelude.{◌≡◌, ◌≢◌, true, false, List, ℕ, ◌+◌, ◌*◌, ◌≤◌, ◌<◌, length}
+use Rattle.std.specs.Prelude.{◌≡◌, ◌≢◌, true, false, List, ℕ, ◌+◌, ◌*◌, ◌≤◌, ◌<◌, length, Some, None}
 use Rattle.rules.specs.Table.{entries, rules, entry_at, rule_at}
 use Rattle.rules.specs.Entry as Entry
 use Rattle.rules.specs.Rule as Rule
@@ -9,7 +9,6 @@ use Rattle.rules.specs.Sound.{sound}
 use Rattle.rules.specs.Match.{match_entry}
 use Rattle.rules.specs.Args.{Args}
 use Rattle.rules.specs.D.{last_with_args}
-use Rattle.rules.specs.declared.Found.TheVariants.{At, Nothing}
 use Rattle.reach.specs.Reach.{Writable, Under, rule_sid}
 use Rattle.pair.specs.Fit.{policy_in, Fits6, Fits4, FitsWaypoint}
 
@@ -31,7 +30,7 @@ pub record Leads6 (near far : List ℕ) (i j : ℕ) : Type 0 where
   pub asked : Asked6 near far i
   pub args : Args
   pub writable : Writable (Entry.direction (entry_at near i)) args
-  pub matches : match_entry far (last_with_args (policy_in near i) args) ≡ At j
+  pub matches : match_entry far (last_with_args (policy_in near i) args) ≡ Some j
 
 -- entry j is E6, and of direction, session type and start of Args so many are those of the near entry and its policy
 pub record Same6 (near far : List ℕ) (i j count : ℕ) : Type 0 where
@@ -49,7 +48,7 @@ pub data Says6 (near far : List ℕ) (i mismatch : ℕ) : Type 0 where
   not_di6 : mismatch ≡ 4 → sound near ≡ true → sound far ≡ true → i < entries near → Entry.behaviour (entry_at near i) ≢ 70
       → Says6 near far i mismatch
   no_entry6 : mismatch ≡ 5 → Asked6 near far i
-      → ((x : Args) → Writable (Entry.direction (entry_at near i)) x → match_entry far (last_with_args (policy_in near i) x) ≡ Nothing)
+      → ((x : Args) → Writable (Entry.direction (entry_at near i)) x → match_entry far (last_with_args (policy_in near i) x) ≡ None)
       → Says6 near far i mismatch
   kind6 : (j : ℕ) → mismatch ≡ naming 6 j → Leads6 near far i j → Entry.behaviour (entry_at far j) ≢ 71 → Says6 near far i mismatch
   direction6 : (j : ℕ) → mismatch ≡ naming 7 j → Same6 near far i j 0
@@ -72,7 +71,7 @@ pub record Leads4 (near far : List ℕ) (k j : ℕ) : Type 0 where
   pub under : Under (rule_at near k) destination
   pub args : Args
   pub writable : Writable (Rule.direction (rule_at near k)) args
-  pub matches : match_entry far (rule_sid (rule_at near k) destination args) ≡ At j
+  pub matches : match_entry far (rule_sid (rule_at near k) destination args) ≡ Some j
 
 -- entry j is E4, and of direction, session type, p and q so many are the rule's
 pub record Same4 (near far : List ℕ) (k j count : ℕ) : Type 0 where
@@ -90,7 +89,7 @@ pub data Says4 (near far : List ℕ) (k mismatch : ℕ) : Type 0 where
   no_record4 : mismatch ≡ 3 → sound near ≡ true → sound far ≡ true → rules near ≤ k → Says4 near far k mismatch
   no_entry4 : mismatch ≡ 5 → sound near ≡ true → sound far ≡ true → k < rules near
       → ((d : List ℕ) (x : Args) → Under (rule_at near k) d → Writable (Rule.direction (rule_at near k)) x
-      → match_entry far (rule_sid (rule_at near k) d x) ≡ Nothing)
+      → match_entry far (rule_sid (rule_at near k) d x) ≡ None)
       → Says4 near far k mismatch
   kind4 : (j : ℕ) → mismatch ≡ naming 6 j → Leads4 near far k j → Entry.behaviour (entry_at far j) ≢ 72 → Says4 near far k mismatch
   direction4 : (j : ℕ) → mismatch ≡ naming 7 j → Same4 near far k j 0
@@ -110,6 +109,6 @@ pub data SaysWaypoint (t sid : List ℕ) (mismatch : ℕ) : Type 0 where
   fit_at : mismatch ≡ 0 → (i : ℕ) → FitsWaypoint t sid i → SaysWaypoint t sid mismatch
   unsound_at : mismatch ≡ 13 → sound t ≡ false → SaysWaypoint t sid mismatch
   size_at : mismatch ≡ 14 → sound t ≡ true → length sid ≢ 16 → SaysWaypoint t sid mismatch
-  no_entry_at : mismatch ≡ 15 → sound t ≡ true → length sid ≡ 16 → match_entry t sid ≡ Nothing → SaysWaypoint t sid mismatch
-  kind_at : (i : ℕ) → mismatch ≡ naming 16 i → sound t ≡ true → length sid ≡ 16 → match_entry t sid ≡ At i
+  no_entry_at : mismatch ≡ 15 → sound t ≡ true → length sid ≡ 16 → match_entry t sid ≡ None → SaysWaypoint t sid mismatch
+  kind_at : (i : ℕ) → mismatch ≡ naming 16 i → sound t ≡ true → length sid ≡ 16 → match_entry t sid ≡ Some i
       → Entry.behaviour (entry_at t i) ≢ 1 → SaysWaypoint t sid mismatch

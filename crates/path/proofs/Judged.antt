@@ -8,19 +8,18 @@ use lib.ListN.{length, drop, length-drop}
 use lib.Seq.{get_or-drop}
 use borrow.Author.Tests.{not-false}
 use Rattle.rules.specs.Octets.{octet}
-use Rattle.rules.specs.Answer.{Row, given, verdict}
+use Rattle.rules.specs.Answer.{Row, given, verdict, Verdict}
 use Rattle.rules.specs.Datagram.{datagram, message_rows, g_pdu_rows, inner_rows, extended}
 use Rattle.rules.specs.Echo.{is_echo}
 use Rattle.rules.specs.Plan.{inner_at}
 use Rattle.rules.specs.declared.Datagram.{Datagram}
-use Rattle.rules.specs.declared.Verdict.{Verdict}
-use Rattle.rules.specs.declared.Verdict.TheVariants.{Pass}
+use Rattle.std.specs.Prelude.{Ok}
 use Rattle.rules.proofs.Rows.{Clear, pass_none, none_parts, read}
 use Rattle.path.specs.ByType.{type_rows}
 
 -- the rows of an Echo Request, and of any other message
 module _ (direction session : ℕ) (g : Datagram) (size first field : ℕ) (v : Verdict) where
-  pub type-echo : is_echo g ≡ true → v ≡ Pass → v ≡ verdict (type_rows direction session g size first field)
+  pub type-echo : is_echo g ≡ true → v ≡ Ok tt → v ≡ verdict (type_rows direction session g size first field)
   unfolding type_rows verdict
   type-echo t e = rw t e
 
@@ -71,7 +70,7 @@ module _ (p : List ℕ) (at : ℕ) (g : Datagram) (place size first : ℕ) (r : 
           ++ inner_rows session (n i) (f i) (ff i)))))
 
       -- the inner packet lies within, and the length field holds
-      pub gpdu_bounds : v ≡ Pass → (place ≤ length p) × (field ≤ 65535)
+      pub gpdu_bounds : v ≡ Ok tt → (place ≤ length p) × (field ≤ 65535)
       unfolding message_rows g_pdu_rows inner_rows
       gpdu_bounds q =
           let inners = inner_rows session size first field in

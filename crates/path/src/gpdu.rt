@@ -4,78 +4,56 @@ ghost use Rattle.std.specs.Prelude.{◌≡◌, [], ◌∷◌, ◌++◌};
 ghost use Rattle.rules.specs.Answer.{row, verdict};
 ghost use Rattle.rules.specs.Datagram.{bad_gtpu, message_rows, g_pdu_rows, inner_rows};
 ghost use Rattle.rules.specs.Session.{inner_protocol};
-ghost use Rattle.path.specs.ByType.{type_rows};
+ghost use Rattle.path.specs.ByType.{rows_of};
 
-use rules::assigned;
+use rules::{Refusal, assigned};
 
-// Rows 11 to 15, of an inner packet of `size` octets that begins with `first`, and the length field of what is to be sent.
-fn judge_pdu(
-    direction: u8,
-    session: u8,
-    g: rules::Datagram,
-    size: usize,
-    first: u8,
-    field: usize,
-) -> rules::Verdict
-    ensures { result ≡ verdict (g_pdu_rows direction g ++ inner_rows session size first field) }
-{
-    let pdu = gtpu::judge_gpdu(direction, g);
-    match pdu {
-        rules::Verdict::Refuse(r) => rules::Verdict::Refuse(r),
-        rules::Verdict::Pass => gtpu::judge_inner(session, size, first, field),
-    }
+// What a message is judged by: its view, direction and PDU session type of the record that it is at, size and first octet of the inner
+// packet, and the length field of what is to be sent.
+#[derive(Clone, Copy)]
+pub struct Message {
+    pub direction: u8,
+    pub session: u8,
+    pub view: rules::Datagram,
+    pub size: usize,
+    pub first: u8,
+    pub field: usize,
 }
 
-// Rows behind row 10, by the type of the message: none of an Echo Request.
-fn judge_type(
-    direction: u8,
-    session: u8,
-    g: rules::Datagram,
-    size: usize,
-    first: u8,
-    field: usize,
-) -> rules::Verdict
-    ensures { result ≡ verdict (type_rows direction session g size first field) }
-{
-    if echo::is_echo(g) {
-        return rules::Verdict::Pass;
+impl Message {
+    // Rows 11 to 15.
+    fn judge_pdu(&self) -> Result<(), Refusal>
+        ensures { result ≡ verdict (g_pdu_rows self.now.direction self.now.view
+            ++ inner_rows self.now.session self.now.size self.now.first self.now.field) }
+    {
+        gtpu::judge_gpdu(self.direction, self.view)?;
+        gtpu::judge_inner(self.session, self.size, self.first, self.field)
     }
-    judge_pdu(direction, session, g, size, first, field)
-}
 
-// Row 10 and those behind it.
-pub fn judge_message(
-    direction: u8,
-    session: u8,
-    g: rules::Datagram,
-    size: usize,
-    first: u8,
-    field: usize,
-) -> rules::Verdict
-    ensures { result ≡ verdict (row (bad_gtpu g) 10 ∷ type_rows direction session g size first field) }
-{
-    let message = gtpu::judge_gtpu(g);
-    match message {
-        rules::Verdict::Refuse(r) => rules::Verdict::Refuse(r),
-        rules::Verdict::Pass => judge_type(direction, session, g, size, first, field),
+    // Rows behind row 10, by the type of the message: none of an Echo Request.
+    fn judge_type(&self) -> Result<(), Refusal>
+        ensures { result ≡ verdict (rows_of self.now) }
+    {
+        if echo::is_echo(self.view) {
+            return Ok(());
+        }
+        self.judge_pdu()
     }
-}
 
-// Row 9 and those behind it, where there is no row 18: over IPv4 no checksum is verified.
-pub fn judge(
-    direction: u8,
-    session: u8,
-    g: rules::Datagram,
-    size: usize,
-    first: u8,
-    field: usize,
-) -> rules::Verdict
-    ensures { result ≡ verdict (message_rows [] g ++ type_rows direction session g size first field) }
-{
-    let udp = gtpu::judge_udp(g);
-    match udp {
-        rules::Verdict::Refuse(r) => rules::Verdict::Refuse(r),
-        rules::Verdict::Pass => judge_message(direction, session, g, size, first, field),
+    // Row 10 and those behind it.
+    pub fn judge_gtpu(&self) -> Result<(), Refusal>
+        ensures { result ≡ verdict (row (bad_gtpu self.now.view) 10 ∷ rows_of self.now) }
+    {
+        gtpu::judge_gtpu(self.view)?;
+        self.judge_type()
+    }
+
+    // Row 9 and those behind it, where there is no row 18: over IPv4 no checksum is verified.
+    pub fn judge(&self) -> Result<(), Refusal>
+        ensures { result ≡ verdict (message_rows [] self.now.view ++ rows_of self.now) }
+    {
+        gtpu::judge_udp(self.view)?;
+        self.judge_gtpu()
     }
 }
 

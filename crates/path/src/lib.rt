@@ -4,9 +4,9 @@
 ghost use Rattle.std.specs.Prelude.{◌≡◌, [], ◌∷◌, ◌++◌, ◌+◌, ◌*◌, ◌≤◌, ◌<◌, length, get_or};
 ghost use Rattle.rules.specs.Table.{addresses_at};
 ghost use Rattle.rules.specs.Srh.{segments};
-ghost use Rattle.rules.specs.Plan.{path_front, tail_of, head_along};
+ghost use Rattle.rules.specs.Plan.{path_front, tail_of};
 ghost use Rattle.copying.specs.Run.{Run};
-ghost use Rattle.path.specs.Fits.{Fits, Ready, head_of};
+ghost use Rattle.path.specs.Fits.{Ready, head_of};
 
 use rules::assigned;
 
@@ -32,24 +32,18 @@ pub struct PathPlan {
     pub size: usize,
 }
 
-// The IPv6 header and the first eight octets of an SRH of n segments.
-fn put_front(
-    out: &mut [u8],
-    class: u8,
-    upper: u8,
-    hops: u8,
-    source: [u8; 16],
-    to: [u8; 16],
-    n: usize,
-    size: usize,
-)
-    requires { (48 ≤ length out.old) × (8 + 16 * n + size < 65536) × (1 ≤ n) × (n ≤ 9) }
-    ensures { Run out.old 0 48 (path_front class upper hops source to n size) out.new }
+// The IPv6 header and the first eight octets of an SRH, toward the first address of the path.
+fn put_front(out: &mut [u8], plan: PathPlan, to: [u8; 16])
+    requires { (48 ≤ length out.old) × (8 + 16 * (plan.waypoints + plan.tail) + plan.size < 65536)
+        × (1 ≤ plan.waypoints + plan.tail) × (plan.waypoints + plan.tail ≤ 9) }
+    ensures { Run out.old 0 48 (path_front plan.trafficClass plan.upper plan.hopLimit plan.source to (plan.waypoints + plan.tail)
+        plan.size) out.new }
 {
-    let payload = (8 + 16 * n + size) as u16;
+    let n = plan.waypoints + plan.tail;
+    let payload = (8 + 16 * n + plan.size) as u16;
     let left = (n - 1) as u8;
     let front = [
-        upper,
+        plan.upper,
         (2 * n) as u8,
         assigned::SEGMENT_ROUTING,
         left,
@@ -60,24 +54,14 @@ fn put_front(
     ];
     ip::put_ipv6(
         out,
-        class,
+        plan.trafficClass,
         payload,
         assigned::ROUTING_HEADER,
-        hops,
-        source,
+        plan.hopLimit,
+        plan.source,
         to,
     );
     copying::copy_to(out, 40, &front);
-}
-
-// The first address of a path.
-fn first_of(holder: &[u8], from: usize, waypoints: usize, sid: [u8; 16]) -> [u8; 16]
-    ensures { result ≡ get_or (addresses_at holder.now from waypoints ++ sid ∷ []) 0 [] }
-{
-    if waypoints == 0 {
-        return sid;
-    }
-    octets::window16(holder, from)
 }
 
 // The addresses behind the waypoints, the last of them first.
@@ -93,63 +77,32 @@ fn put_tail(out: &mut [u8], tail: usize, sid: [u8; 16], end: [u8; 16])
     copying::copy_to(out, FRONT + 16, &sid);
 }
 
-// The head along a path: the one writer of D, Di and D4.
-pub fn put_path(
-    out: &mut [u8],
-    class: u8,
-    upper: u8,
-    hops: u8,
-    source: [u8; 16],
-    holder: &[u8],
-    from: usize,
-    waypoints: usize,
-    tail: usize,
-    sid: [u8; 16],
-    end: [u8; 16],
-    size: usize,
-)
-    requires { Fits holder.now from waypoints tail size (length out.old) }
-    ensures { Run out.old 0 (48 + 16 * (waypoints + tail)) (head_along class upper hops source holder.now from
-        waypoints tail sid end size) out.new }
-{
-    let first = first_of(holder, from, waypoints, sid);
-    put_front(
-        out,
-        class,
-        upper,
-        hops,
-        source,
-        first,
-        waypoints + tail,
-        size,
-    );
-    put_tail(out, tail, sid, end);
-    srh::put_reversed(out, FRONT + 16 * tail, holder, from, waypoints);
-}
-
 impl PathPlan {
-    // The head of the plan.
+    // The first address of the path, whose waypoints stand in `holder`.
+    fn first(self, holder: &[u8]) -> [u8; 16]
+        ensures { result ≡ get_or (addresses_at holder.now self.from self.waypoints ++ self.sid ∷ []) 0 [] }
+    {
+        if self.waypoints == 0 {
+            return self.sid;
+        }
+        octets::window::<16>(holder, self.from)
+    }
+
+    // The head of the plan: the one writer of D, Di and D4. Inlined, so that the plan is not stored and read again.
+    #[inline(always)]
     pub fn put(self, holder: &[u8], out: &mut [u8])
         requires { Ready self holder.now (length out.old) }
         ensures { Run out.old 0 (48 + 16 * (self.waypoints + self.tail)) (head_of self holder.now)
             out.new }
     {
-        let source = self.source;
-        let sid = self.sid;
-        let end = self.end;
-        put_path(
+        put_front(out, self, self.first(holder));
+        put_tail(out, self.tail, self.sid, self.end);
+        srh::put_reversed(
             out,
-            self.trafficClass,
-            self.upper,
-            self.hopLimit,
-            source,
+            FRONT + 16 * self.tail,
             holder,
             self.from,
             self.waypoints,
-            self.tail,
-            sid,
-            end,
-            self.size,
         );
     }
 }

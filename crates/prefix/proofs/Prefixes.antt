@@ -11,7 +11,7 @@ use borrow.Author.Tests.{eqb-true, eqb-false, eq-eqb, ne_eqb}
 use lib.Dec.{eqb}
 use lib.Pow.{pow-add, pow_pos, shr-shr, shr_lt, shl-shr, split, mod-pow-add, high, low}
 use Rattle.rules.specs.Octets.{octet, Octets, number}
-use Rattle.rules.specs.Prefix.{first_bits, under, clear}
+use Rattle.rules.specs.Prefix.{first_bits, under}
 use Rattle.numbers.proofs.Words.{number_parts, number_small}
 
 -- two tests that hold together are the same
@@ -177,35 +177,6 @@ shifted x k h =
 
 zero_of : (x k : ℕ) → x * 2 ^ k ≡ 0 → x ≡ 0
 zero_of x k q = sym (shl-shr x k) ∙ ap (λ (y : ℕ). y / 2 ^ k) q ∙ zero-div (2 ^ k)
-
-module _ (p : List ℕ) (n m b : ℕ) (hp : number p n m < 2 ^ (8 * m)) where
-  -- past the first n octets those do not count
-  pub clear_back : 8 * n ≤ b → clear (n + m) p b ≡ eqb (number p n m % 2 ^ (8 * (n + m) - b)) 0
-  unfolding clear
-  clear_back l =
-      let k : ℕ = 8 * (n + m) - b in
-      let f : 8 * m ≡ (8 * m - k) + k = omega arith in
-      rw (parts p n m b)
-      (ap (λ (x : ℕ). eqb ((number p 0 n * 2 ^ x + number p n m) % 2 ^ k) 0) f
-      ∙ rw (pow-add 2 (8 * m - k) k, ← mul_assoc (number p 0 n) (2 ^ (8 * m - k)) (2 ^ k))
-      (ap (λ (x : ℕ). eqb x 0) (mul-add-mod_self_right (number p 0 n * 2 ^ (8 * m - k)) (2 ^ k) (number p n m))))
-
-  remainder : b ≤ 8 * n → number p 0 (n + m) % 2 ^ (8 * (n + m) - b) ≡ number p 0 n % 2 ^ (8 * n - b) * 2 ^ (8 * m) + number p n m
-  remainder l =
-      let e : 8 * (n + m) - b ≡ (8 * n - b) + 8 * m = omega arith in
-      rw (parts p n m b, e, mod-pow-add, high (number p 0 n) (8 * m) hp, low (number p 0 n) (8 * m) hp) refl
-
-  -- within them the others have to be 0
-  pub clear_front : b ≤ 8 * n → number p n m ≡ 0 → clear (n + m) p b ≡ clear n p b
-  unfolding clear
-  clear_front l z =
-      rw (remainder l, z)
-      (eqb_iff (number p 0 n % 2 ^ (8 * n - b) * 2 ^ (8 * m) + 0) 0 (number p 0 n % 2 ^ (8 * n - b)) 0
-      (λ q. zero_of (number p 0 n % 2 ^ (8 * n - b)) (8 * m) (omega arith)) (λ q. rw q (omega arith)))
-
-  pub clear-set : b ≤ 8 * n → (number p n m ≡ 0 → ⊥) → clear (n + m) p b ≡ false
-  unfolding clear
-  clear-set l z = rw (remainder l) (ne_eqb (number p 0 n % 2 ^ (8 * n - b) * 2 ^ (8 * m) + number p n m) 0 (λ q. z (omega arith)))
 
 -- A PREFIX IN TWO WORDS
 

@@ -5,7 +5,6 @@
 ghost use Rattle.std.specs.Prelude.{◌≡◌, ℕ, ◌+◌, ◌-◌, ◌*◌, ◌^◌, ◌%◌, ◌≤◌, ◌<◌, eqb, length};
 ghost use Rattle.rules.specs.Octets.{number};
 ghost use Rattle.rules.specs.Prefix.{under, clear};
-ghost use Rattle.prefix.specs.Lying.{Lying};
 
 const IPV4_BITS: usize = 32;
 
@@ -32,30 +31,12 @@ fn lies_under(address: &[u8], prefix: &[u8], bits: usize) -> bool
     address[whole] >> rest == prefix[whole] >> rest
 }
 
-// An IPv6 address. More than 128 bits count as 128.
-pub fn under16(address: &[u8], prefix: &[u8], bits: usize) -> bool
-    requires { (16 ≤ length address.now) × (16 ≤ length prefix.now) }
-    ensures { result ≡ under 16 address.now prefix.now bits }
+// An address of W octets. More bits than those of W octets count as all of them.
+pub fn under<const W: usize>(address: &[u8], prefix: &[u8], bits: usize) -> bool
+    requires { (W ≤ length address.now) × (W ≤ length prefix.now) }
+    ensures { result ≡ under W address.now prefix.now bits }
 {
-    lies_under(address, prefix, smaller(bits, IPV6_BITS))
-}
-
-// An IPv4 address. More than 32 bits count as 32.
-pub fn under4(address: &[u8], prefix: &[u8], bits: usize) -> bool
-    requires { (4 ≤ length address.now) × (4 ≤ length prefix.now) }
-    ensures { result ≡ under 4 address.now prefix.now bits }
-{
-    lies_under(address, prefix, smaller(bits, IPV4_BITS))
-}
-
-// The smaller of two numbers.
-fn smaller(x: usize, y: usize) -> usize
-    ensures { result ≡ x - (x - y) }
-{
-    if x < y {
-        return x;
-    }
-    y
+    lies_under(address, prefix, bits.min(W.saturating_mul(8)))
 }
 
 // The first n octets are the same: eight at a time while eight are left, then four, two and one, where so many are.
@@ -63,21 +44,20 @@ fn same_octets(a: &[u8], b: &[u8], n: usize) -> bool
     requires { (n ≤ length a.now) × (n ≤ length b.now) }
     ensures { result ≡ eqb (number a.now 0 n) (number b.now 0 n) }
 {
-    let mut i = 0;
-    while i + 8 <= n {
-        if eight_octets(a, i) != eight_octets(b, i) {
+    for k in 0..n / 8 {
+        if numbers::eight(a, 8 * k) != numbers::eight(b, 8 * k) {
             return false;
         }
-        i += 8;
     }
+    let mut i = n / 8 * 8;
     if i + 4 <= n {
-        if four_octets(a, i) != four_octets(b, i) {
+        if numbers::four(a, i) != numbers::four(b, i) {
             return false;
         }
         i += 4;
     }
     if i + 2 <= n {
-        if two_octets(a, i) != two_octets(b, i) {
+        if numbers::two(a, i) != numbers::two(b, i) {
             return false;
         }
         i += 2;
@@ -88,29 +68,6 @@ fn same_octets(a: &[u8], b: &[u8], n: usize) -> bool
     true
 }
 
-// Two, four and eight octets in one number as they lie: the first is the lowest. It only serves to tell whether octets are the same. Each
-// compiles to one load.
-fn two_octets(s: &[u8], at: usize) -> usize
-    requires { at + 2 ≤ length s.now }
-    ensures { Lying s.now at 2 result }
-{
-    octets::wide(s[at]) + octets::wide(s[at + 1]) * 256
-}
-
-fn four_octets(s: &[u8], at: usize) -> usize
-    requires { at + 4 ≤ length s.now }
-    ensures { Lying s.now at 4 result }
-{
-    two_octets(s, at) + two_octets(s, at + 2) * 65536
-}
-
-fn eight_octets(s: &[u8], at: usize) -> usize
-    requires { at + 8 ≤ length s.now }
-    ensures { Lying s.now at 8 result }
-{
-    four_octets(s, at) + four_octets(s, at + 4) * 4294967296
-}
-
 // The last `rest` bits of a word are 0.
 fn ends_clear(word: u64, rest: usize) -> bool
     requires { rest < 64 }
@@ -119,26 +76,7 @@ fn ends_clear(word: u64, rest: usize) -> bool
     (word >> rest) << rest == word
 }
 
-// The bits of an IPv6 prefix past the first `bits` are 0.
-pub fn clear16(prefix: &[u8], bits: usize) -> bool
-    requires { 16 ≤ length prefix.now }
-    ensures { result ≡ clear 16 prefix.now bits }
-{
-    let low = numbers::eight(prefix, 8);
-    if WORD_BITS < bits {
-        return ends_clear(low, octets::saturating_sub(IPV6_BITS, bits));
-    }
-    if low != 0 {
-        return false;
-    }
-    let high = numbers::eight(prefix, 0);
-    if bits == 0 {
-        return high == 0;
-    }
-    ends_clear(high, WORD_BITS - bits)
-}
-
-// The same of a prefix in two words: a shift drops the bits of the prefix, and what is left must be 0.
+// The bits of an IPv6 prefix, in two words, past the first `bits` are 0: a shift drops the bits of the prefix, and what is left must be 0.
 pub fn words_clear(high: u64, low: u64, bits: usize) -> bool
     ensures { result ≡ eqb ((high * 2 ^ 64 + low) % 2 ^ (128 - bits)) 0 }
 {
@@ -157,13 +95,18 @@ pub fn words_clear(high: u64, low: u64, bits: usize) -> bool
     high << bits == 0
 }
 
+// The same of an IPv6 prefix where it lies.
+pub fn clear16(prefix: &[u8], bits: usize) -> bool
+    requires { 16 ≤ length prefix.now }
+    ensures { result ≡ clear 16 prefix.now bits }
+{
+    words_clear(numbers::eight(prefix, 0), numbers::eight(prefix, 8), bits)
+}
+
 // The same of an IPv4 prefix.
 pub fn clear4(prefix: &[u8], bits: usize) -> bool
     requires { 4 ≤ length prefix.now }
     ensures { result ≡ clear 4 prefix.now bits }
 {
-    ends_clear(
-        numbers::four(prefix, 0),
-        octets::saturating_sub(IPV4_BITS, bits),
-    )
+    ends_clear(numbers::four(prefix, 0), IPV4_BITS.saturating_sub(bits))
 }

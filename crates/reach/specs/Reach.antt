@@ -1,6 +1,6 @@
 -- Which entries of a table the SIDs of a near record can come under, told without a packet: a policy's last SID with any Args that can be
 -- written there, and the SID that a rule builds, also for any destination under the rule's prefix.
-use Rattle.std.specs.Prelude.{◌≡◌, ◌≢◌, Bool, true, cond, ◌&&◌, List, ℕ, ◌-◌, ◌*◌, ◌<◌, eqb, length}
+use Rattle.std.specs.Prelude.{◌≡◌, ◌≢◌, Bool, true, cond, ◌&&◌, List, ℕ, ◌-◌, ◌*◌, ◌<◌, eqb, length, Option}
 use Rattle.rules.specs.Octets.{Octets, window}
 use Rattle.rules.specs.Prefix.{under}
 use Rattle.rules.specs.Assigned.{downlink}
@@ -11,7 +11,6 @@ use Rattle.rules.specs.Match.{longest, entry_bits}
 use Rattle.rules.specs.Args.{Args, args_at, with_args}
 use Rattle.rules.specs.E4.{start_behind}
 use Rattle.rules.specs.D4.{address_behind}
-use Rattle.rules.specs.declared.Found.{Found}
 
 -- WHAT A PACKET MAY BRING
 
@@ -68,11 +67,11 @@ reaches4 r prefix b =
 abbrev pub entry_reached6 : (t : List ℕ) (direction : ℕ) (sid : List ℕ) (start : ℕ) → ℕ → Bool
 entry_reached6 t direction sid start k = reaches6 direction sid start (Entry.prefix (entry_at t k)) (entry_bits t k)
 
-unfoldable pub reach6 : (t : List ℕ) (direction : ℕ) (sid : List ℕ) (start : ℕ) → Found
+unfoldable pub reach6 : (t : List ℕ) (direction : ℕ) (sid : List ℕ) (start : ℕ) → Option ℕ
 reach6 t direction sid start = longest (entry_reached6 t direction sid start) (entry_bits t) (entries t)
 
 abbrev pub entry_reached4 : (t r : List ℕ) → ℕ → Bool
 entry_reached4 t r k = reaches4 r (Entry.prefix (entry_at t k)) (entry_bits t k)
 
-unfoldable pub reach4 : (t r : List ℕ) → Found
+unfoldable pub reach4 : (t r : List ℕ) → Option ℕ
 reach4 t r = longest (entry_reached4 t r) (entry_bits t) (entries t)

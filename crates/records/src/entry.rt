@@ -1,7 +1,6 @@
 // A SID entry: where its fields lie.
 ghost use Rattle.std.specs.Prelude.{◌≡◌, length};
 ghost use Rattle.rules.specs.Entry.{prefix};
-ghost use Rattle.records.specs.Results.{Lent};
 
 pub const BEHAVIOUR: usize = 0;
 
@@ -32,9 +31,9 @@ pub const PREFIX: usize = 16;
 
 pub const SOURCE: usize = 32;
 
-pub fn prefix_of(e: &[u8]) -> &[u8]
+pub fn prefix_of(e: &[u8]) -> &[u8; crate::IPV6_ADDRESS_SIZE]
     requires { length e.now ≡ 64 }
-    ensures { Lent result.now (prefix e.now) 16 }
+    ensures same { result.now ≡ prefix e.now }
 {
-    crate::part(e, PREFIX, crate::IPV6_ADDRESS_SIZE)
+    crate::part(e, PREFIX)
 }

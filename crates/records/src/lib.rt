@@ -4,7 +4,7 @@
 ghost use Rattle.std.specs.Prelude.{◌≡◌, ◌+◌, ◌*◌, ◌≤◌, length};
 ghost use Rattle.rules.specs.Octets.{window, read16};
 ghost use Rattle.rules.specs.Table.{entries, rules, policies, rules_at, policies_at, table_size, entry_at, rule_at, policy_at};
-ghost use Rattle.records.specs.Results.{Known, Lent};
+ghost use Rattle.records.specs.Results.{Known};
 
 pub mod entry; // entry.rt: a SID entry
 pub mod rule; // rule.rt: an IPv4 rule
@@ -17,6 +17,13 @@ pub const ENTRY_SIZE: usize = 64;
 pub const RULE_SIZE: usize = 160;
 
 pub const POLICY_SIZE: usize = 288;
+
+// A record where it lies in the table.
+pub type Entry = [u8; ENTRY_SIZE];
+
+pub type Rule = [u8; RULE_SIZE];
+
+pub type Policy = [u8; POLICY_SIZE];
 
 pub const IPV6_ADDRESS_SIZE: usize = 16;
 
@@ -72,47 +79,47 @@ pub fn size(table: &[u8]) -> usize
     policies_start(table) + POLICY_SIZE * policies(table)
 }
 
-// The n octets from `at` on.
-pub fn part(s: &[u8], at: usize, n: usize) -> &[u8]
-    requires { at + n ≤ length s.now }
-    ensures { Lent result.now (window s.now at n) n }
+// The octets from `at` on, as many as the array has.
+pub fn part<const N: usize>(s: &[u8], at: usize) -> &[u8; N]
+    requires { at + N ≤ length s.now }
+    ensures same { result.now ≡ window s.now at N }
 {
-    let end = at + n;
-    &s[at..end]
+    let end = at + N;
+    s[at..end].as_array().unwrap()
 }
 
-pub fn entry_at(table: &[u8], i: usize) -> &[u8]
+pub fn entry_at(table: &[u8], i: usize) -> &Entry
     requires { 16 + 64 * (i + 1) ≤ length table.now }
-    ensures { Lent result.now (entry_at table.now i) 64 }
+    ensures same { result.now ≡ entry_at table.now i }
 {
-    part(table, HEADER_SIZE + ENTRY_SIZE * i, ENTRY_SIZE)
+    part(table, HEADER_SIZE + ENTRY_SIZE * i)
 }
 
-pub fn rule_at(table: &[u8], k: usize) -> &[u8]
+pub fn rule_at(table: &[u8], k: usize) -> &Rule
     requires { rules_at table.now + 160 * (k + 1) ≤ length table.now }
-    ensures { Lent result.now (rule_at table.now k) 160 }
+    ensures same { result.now ≡ rule_at table.now k }
 {
-    part(table, rules_start(table) + RULE_SIZE * k, RULE_SIZE)
+    part(table, rules_start(table) + RULE_SIZE * k)
 }
 
-pub fn policy_at(table: &[u8], j: usize) -> &[u8]
+pub fn policy_at(table: &[u8], j: usize) -> &Policy
     requires { policies_at table.now + 288 * (j + 1) ≤ length table.now }
-    ensures { Lent result.now (policy_at table.now j) 288 }
+    ensures same { result.now ≡ policy_at table.now j }
 {
-    part(table, policies_start(table) + POLICY_SIZE * j, POLICY_SIZE)
+    part(table, policies_start(table) + POLICY_SIZE * j)
 }
 
 // The same where it is known where the rules, and the policies, begin.
-pub fn rule_from(table: &[u8], start: usize, k: usize) -> &[u8]
+pub fn rule_from(table: &[u8], start: usize, k: usize) -> &Rule
     requires { (start ≡ rules_at table.now) × (start + 160 * (k + 1) ≤ length table.now) }
-    ensures { Lent result.now (rule_at table.now k) 160 }
+    ensures same { result.now ≡ rule_at table.now k }
 {
-    part(table, start + RULE_SIZE * k, RULE_SIZE)
+    part(table, start + RULE_SIZE * k)
 }
 
-pub fn policy_from(table: &[u8], start: usize, j: usize) -> &[u8]
+pub fn policy_from(table: &[u8], start: usize, j: usize) -> &Policy
     requires { (start ≡ policies_at table.now) × (start + 288 * (j + 1) ≤ length table.now) }
-    ensures { Lent result.now (policy_at table.now j) 288 }
+    ensures same { result.now ≡ policy_at table.now j }
 {
-    part(table, start + POLICY_SIZE * j, POLICY_SIZE)
+    part(table, start + POLICY_SIZE * j)
 }

@@ -1,7 +1,6 @@
 // An IPv4 rule: where its fields lie.
 ghost use Rattle.std.specs.Prelude.{◌≡◌, length};
 ghost use Rattle.rules.specs.Rule.{prefix};
-ghost use Rattle.records.specs.Results.{Lent};
 
 pub const PREFIX_LENGTH: usize = 0;
 
@@ -27,9 +26,9 @@ pub const SOURCE_PREFIX: usize = 32;
 
 pub const WAYPOINTS: usize = 48;
 
-pub fn prefix_of(r: &[u8]) -> &[u8]
+pub fn prefix_of(r: &[u8]) -> &[u8; crate::IPV4_ADDRESS_SIZE]
     requires { length r.now ≡ 160 }
-    ensures { Lent result.now (prefix r.now) 4 }
+    ensures same { result.now ≡ prefix r.now }
 {
-    crate::part(r, PREFIX, crate::IPV4_ADDRESS_SIZE)
+    crate::part(r, PREFIX)
 }

@@ -17,9 +17,7 @@ use Rattle.rules.specs.Header.{header, malformed}
 use Rattle.rules.specs.Answer.{any, plain, verdict, Outcome, Sent, Refused, outcome, after, unless}
 use Rattle.rules.specs.Calls.{at_found_entry, decide_found_entry, front_rows6, decide6, translate6}
 use Rattle.rules.specs.declared.Refusal.{Refusal}
-use Rattle.rules.specs.declared.Found.{Found}
-use Rattle.rules.specs.declared.Found.TheVariants.{At, Nothing}
-use Rattle.rules.specs.declared.Verdict.TheVariants.{Pass, Refuse}
+use Rattle.std.specs.Prelude.{Option, Some, None, Ok, Err}
 use Rattle.rules.proofs.Conditions.{and_left, and_right}
 use Rattle.rules.proofs.Rows.{settle-sent}
 use Rattle.rules.proofs.Judging.{unless-append}
@@ -102,19 +100,19 @@ module _ (p t : List ℕ) where
   unfolding front_rows6 verdict
   low r = go (any (not (sound t) ∷ [])) (any (malformed (header p)))
     where
-      go : (b c : Bool) → after (cond b (Refuse (plain 1)) (cond c (Refuse (plain 2)) Pass)) (Refused (plain 4)) ≡ Refused r → r.number ≤ 4
+      go : (b c : Bool) → after (cond b (Err (plain 1)) (cond c (Err (plain 2)) (Ok tt))) (Refused (plain 4)) ≡ Refused r → r.number ≤ 4
       go true c h = let q : r.number ≡ 1 = cc in omega (arith, q)
       go false true h = let q : r.number ≡ 2 = cc in omega (arith, q)
       go false false h = let q : r.number ≡ 4 = cc in omega (arith, q)
 
   -- so a packet that is answered 6, 7 or 8 has come to an entry
-  pub at_entry : (r : Refusal) → outcome (decide6 p t) ≡ Refused r → 6 ≤ r.number → (i : ℕ) × (match_entry t (Ipv6.destination p) ≡ At i)
+  pub at_entry : (r : Refusal) → outcome (decide6 p t) ≡ Refused r → 6 ≤ r.number → (i : ℕ) × (match_entry t (Ipv6.destination p) ≡ Some i)
   at_entry r e l = go (match_entry t (Ipv6.destination p)) refl
     where
-      go : (f : Found) → match_entry t (Ipv6.destination p) ≡ f → (i : ℕ) × (match_entry t (Ipv6.destination p) ≡ At i)
-      go (At i) m = (i, m)
-      go Nothing m =
+      go : (f : Option ℕ) → match_entry t (Ipv6.destination p) ≡ f → (i : ℕ) × (match_entry t (Ipv6.destination p) ≡ Some i)
+      go (Some i) m = (i, m)
+      go None m =
           let q = sym front ∙ e in
-          let k = ap (λ (f : Found). unless (front_rows6 t (header p)) (at_found_entry t p f)) m ∙ ap (unless (front_rows6 t (header p)))
+          let k = ap (λ (f : Option ℕ). unless (front_rows6 t (header p)) (at_found_entry t p f)) m ∙ ap (unless (front_rows6 t (header p)))
           (at_no_entry t p) in
           absurd (omega (arith, l, low r (sym k ∙ q)))

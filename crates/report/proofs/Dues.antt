@@ -19,7 +19,7 @@ use Rattle.rules.specs.Answer.{any, plain, room_row, Outcome, Sent, Refused, out
 use Rattle.rules.specs.Calls.{decide6}
 use Rattle.rules.specs.Given.{Leaves}
 use Rattle.rules.specs.declared.Refusal.{Refusal}
-use Rattle.rules.specs.declared.Found.TheVariants.{At}
+use Rattle.std.specs.Prelude.{Some}
 use Rattle.rules.proofs.Conditions.{and_left, and_right}
 use Rattle.rules.proofs.Exact.{or_leads}
 use Rattle.rules.proofs.Rows.{read, any-clear, unless-sent}
@@ -77,7 +77,7 @@ module _ (p t : List ℕ) where
         settle-refused room _ (plain 23) (ap (report_of t p f) e ∙ report_none t p f r h)
 
     due_settles : (r : Refusal) → outcome (decide6 p t) ≡ Refused r → any (none_due r.number p) ≡ false
-        → (i : ℕ) → match_entry t (Ipv6.destination p) ≡ At i → icmp6 p t room ≡ settle room (Sent (icmp_packet (entry_at t i) r p))
+        → (i : ℕ) → match_entry t (Ipv6.destination p) ≡ Some i → icmp6 p t room ≡ settle room (Sent (icmp_packet (entry_at t i) r p))
     unfolding icmp6
     due_settles r e h i m =
         (λ k. settle room (report_of t p (m k) (e k))) ∙ ap (settle room) (report_sent t p i r h)
@@ -164,7 +164,7 @@ module _ (p t : List ℕ) (op : Octets p) (ot : Octets t) (room : ℕ) where
           within : (6 ≤ n) × (n ≤ 8)
           within = within_6_8 n p h
 
-          found : (i : ℕ) × (match_entry t (Ipv6.destination p) ≡ At i)
+          found : (i : ℕ) × (match_entry t (Ipv6.destination p) ≡ Some i)
           found = at_entry p t r e within.0
 
           i : ℕ

@@ -2,12 +2,11 @@
 use mathlib.Core.Path.{◌≡◌, refl, sym, ap, ◌∙◌}
 use mathlib.Core.Bool.{Bool, true, false, not, cond, ◌&&◌, ◌||◌}
 use mathlib.Core.List.{List}
-use Prim.Native.Nat.{ℕ, ◌+◌, ◌*◌, ◌/◌, ◌%◌}
+use Prim.Native.Nat.{ℕ, ◌/◌, ◌%◌}
 use native.Mathlib.Omega.{arith}
-use native.Mathlib.Decide.{ℕ_discrete}
 use lib.Dec.{leb, ltb, eqb}
 use lib.ListN.{length}
-use borrow.Author.Tests.{ltb-true, ltb-false, le-leb, lt-leb, eqb-true, eq-eqb, ne_eqb}
+use borrow.Author.Tests.{ltb-true, ltb-false, le-leb, lt-leb, eqb-true}
 use Rattle.rules.specs.Octets.{Octets, octet, window, number}
 use Rattle.rules.specs.Ipv6 as Ipv6
 use Rattle.rules.specs.Table.{entry_at}
@@ -20,30 +19,20 @@ use Rattle.rules.specs.Refused.{upper_at}
 use Rattle.rules.specs.Given.{icmp, without_icmp, with_icmp, Listed}
 use Rattle.rules.specs.declared.Header.{Header}
 use Rattle.rules.specs.declared.Refusal.{Refusal}
-use Rattle.rules.specs.declared.Found.{Found}
-use Rattle.rules.specs.declared.Found.TheVariants.{At, Nothing}
+use Rattle.std.specs.Prelude.{nat_eq, Option, Some, None}
+use Rattle.std.specs.Int.{w128, from_be_bytes}
 use Rattle.rules.proofs.Deciding.{settle-outcome}
 use Rattle.rules.proofs.Judging.{any-given, any_last}
 use Rattle.rules.proofs.Given.{listed6}
-use Rattle.numbers.specs.Read.{Read}
-use Rattle.numbers.proofs.Words.{number_parts}
 use Rattle.answer.proofs.Settling.{room_short, room_enough}
 use Rattle.icmp.specs.Icmp.{icmp_packet}
 use Rattle.report.specs.Report.{is_unspecified, has_type, is_error_or_redirect, none_due, report_of, icmp6}
 
 -- THE TESTS
 
-pub unspecified_read : (s : List ℕ) (h l : ℕ) → Read s 0 8 h → Read s 8 8 l → (eqb h 0 && eqb l 0) ≡ is_unspecified s
-unspecified_read s h l x y = go (ℕ_discrete h 0) (ℕ_discrete l 0)
-  where
-    whole : number s 0 16 ≡ number s 0 8 * 18446744073709551616 + number s 8 8
-    whole = number_parts s 0 8 8
-
-    go : Dec (h ≡ 0) → Dec (l ≡ 0) → (eqb h 0 && eqb l 0) ≡ is_unspecified s
-    go (yes a) (yes b) = rw (eq-eqb h 0 a, eq-eqb l 0 b, eq-eqb (number s 0 16) 0 (omega (arith, whole, x.value, y.value, a, b))) refl
-    go (yes a) (no b) =
-        rw (eq-eqb h 0 a, ne_eqb l 0 b, ne_eqb (number s 0 16) 0 (λ z. b (omega (arith, whole, x.value, y.value, z)))) refl
-    go (no a) b = rw (ne_eqb h 0 a, ne_eqb (number s 0 16) 0 (λ z. a (omega (arith, whole, x.value, y.value, z)))) refl
+pub unspecified_read : (s : List ℕ) (n : ℕ) → n ≡ from_be_bytes w128 s → nat_eq n 0 ≡ is_unspecified s
+unfolding number
+unspecified_read s n e = let whole : n ≡ number s 0 16 = e ∙ omega arith in ap (λ (k : ℕ). eqb k 0) whole
 
 -- answered with another number than 6, 7 or 8
 pub outside : (n : ℕ) (rest : Bool) → (ltb n 6 || (ltb 8 n || rest)) ≡ (not (leb 6 n && leb n 8) || rest)
@@ -75,23 +64,23 @@ error_read h kind =
 
 -- WHAT IS REPORTED
 
-pub report_none : (t p : List ℕ) (f : Found) (r : Refusal) → any (none_due r.number p) ≡ true
+pub report_none : (t p : List ℕ) (f : Option ℕ) (r : Refusal) → any (none_due r.number p) ≡ true
     → report_of t p f (Refused r) ≡ Refused (plain 23)
 unfolding report_of verdict
-report_none t p (At i) r h = rw h refl
-report_none t p Nothing r h = refl
+report_none t p (Some i) r h = rw h refl
+report_none t p None r h = refl
 
-pub report_nowhere : (t p : List ℕ) (o : Outcome) → report_of t p Nothing o ≡ Refused (plain 23)
+pub report_nowhere : (t p : List ℕ) (o : Outcome) → report_of t p None o ≡ Refused (plain 23)
 unfolding report_of
 report_nowhere t p o = refl
 
-pub report_of_sent : (t p : List ℕ) (f : Found) (x : List ℕ) → report_of t p f (Sent x) ≡ Refused (plain 23)
+pub report_of_sent : (t p : List ℕ) (f : Option ℕ) (x : List ℕ) → report_of t p f (Sent x) ≡ Refused (plain 23)
 unfolding report_of
-report_of_sent t p (At i) x = refl
-report_of_sent t p Nothing x = refl
+report_of_sent t p (Some i) x = refl
+report_of_sent t p None x = refl
 
 pub report_sent : (t p : List ℕ) (i : ℕ) (r : Refusal) → any (none_due r.number p) ≡ false
-    → report_of t p (At i) (Refused r) ≡ Sent (icmp_packet (entry_at t i) r p)
+    → report_of t p (Some i) (Refused r) ≡ Sent (icmp_packet (entry_at t i) r p)
 unfolding report_of verdict
 report_sent t p i r h = rw h refl
 
@@ -101,7 +90,7 @@ unfolding settle
 settle-refused room o r e = ap (settle room) e
 
 -- a number outside of 6 to 8
-otherwise : (t p : List ℕ) (f : Found) (r : Refusal) → (leb 6 r.number && leb r.number 8) ≡ false
+otherwise : (t p : List ℕ) (f : Option ℕ) (r : Refusal) → (leb 6 r.number && leb r.number 8) ≡ false
     → report_of t p f (Refused r) ≡ Refused (plain 23)
 unfolding none_due
 otherwise t p f r h = report_none t p f r (rw h refl)
@@ -168,7 +157,7 @@ module _ (p t : List ℕ) where
             rw (q, z) refl
 
     -- a message about what is read there is one about what was decided
-    asked : (f : Found) → report_of t p f (Refused (refusal_in (packed (translate6 p t 0)))) ≡ report_of t p f (outcome (decide6 p t))
+    asked : (f : Option ℕ) → report_of t p f (Refused (refusal_in (packed (translate6 p t 0)))) ≡ report_of t p f (outcome (decide6 p t))
     asked f = go (outcome (decide6 p t)) refl
       where
         r : Refusal

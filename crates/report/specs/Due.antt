@@ -1,6 +1,6 @@
 -- When a message is due, said a second time: by what the IPv6 call answers, and in the octets of the packet and plain numbers. No row list,
 -- no view and no test is named here.
-use Rattle.std.specs.Prelude.{◌≡◌, ◌⊎◌, List, ℕ, ◌+◌, ◌≤◌, ◌<◌, length}
+use Rattle.std.specs.Prelude.{◌≡◌, ◌⊎◌, List, ℕ, ◌+◌, ◌≤◌, ◌<◌, length, Some}
 use Rattle.rules.specs.Octets.{octet}
 use Rattle.rules.specs.Table.{entry_at}
 use Rattle.rules.specs.Ipv6 as Ipv6
@@ -10,7 +10,6 @@ use Rattle.rules.specs.Calls.{translate6}
 use Rattle.rules.specs.Refused.{upper, upper_at}
 use Rattle.rules.specs.Given.{ReadBack}
 use Rattle.rules.specs.declared.Refusal.{Refusal}
-use Rattle.rules.specs.declared.Found.TheVariants.{At}
 use Rattle.icmp.specs.Message.{WrittenIcmp}
 
 -- the IPv6 call answers the packet with this number, whatever the room
@@ -52,7 +51,7 @@ pub record Reports (p t x : List ℕ) : Type 0 where
   pub index : ℕ
   pub among : (number ≡ 6) ⊎ ((number ≡ 7) ⊎ (number ≡ 8))
   pub answered : Answers p t number
-  pub matched : match_entry t (Ipv6.destination p) ≡ At index
+  pub matched : match_entry t (Ipv6.destination p) ≡ Some index
   pub written : WrittenIcmp (entry_at t index) number p x
 
 -- An answer of the call: 0 with the length of what is sent, or 23 or 16 with length 0; all ICMP fields are 0.

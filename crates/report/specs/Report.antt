@@ -1,5 +1,5 @@
 -- The call that reports by ICMPv6 (RFC 4443): a message about a packet that the IPv6 call answers 6, 7 or 8, where one is due.
-use Rattle.std.specs.Prelude.{Bool, not, ◌&&◌, List, [], ◌∷◌, ℕ, leb, ltb, eqb}
+use Rattle.std.specs.Prelude.{Bool, not, ◌&&◌, List, [], ◌∷◌, ℕ, leb, ltb, eqb, Option, Some, None}
 use Rattle.rules.specs.Octets.{octet, number}
 use Rattle.rules.specs.Assigned.{icmpv6_protocol, redirect}
 use Rattle.rules.specs.Table.{entry_at}
@@ -9,8 +9,6 @@ use Rattle.rules.specs.Header.{header}
 use Rattle.rules.specs.Answer.{row, given, plain, Outcome, Sent, Refused, outcome, unless, settle}
 use Rattle.rules.specs.Calls.{decide6}
 use Rattle.rules.specs.declared.Header.{Header}
-use Rattle.rules.specs.declared.Found.{Found}
-use Rattle.rules.specs.declared.Found.TheVariants.{At, Nothing}
 use Rattle.icmp.specs.Icmp.{icmp_packet}
 
 -- ff00::/8, and :: (RFC 4291, 2.7 and 2.5.2)
@@ -41,10 +39,10 @@ unfoldable pub none_due : (answered : ℕ) (p : List ℕ) → List Bool
 none_due answered p = not (leb 6 answered && leb answered 8) ∷ exceptions p
 
 -- about what the IPv6 call decided of the packet p, at the entry that is the longest match for its destination
-unfoldable pub report_of : (t p : List ℕ) → Found → Outcome → Outcome
-report_of t p (At i) (Refused r) = unless (row (none_due r.number p) 23 ∷ []) (Sent (icmp_packet (entry_at t i) r p))
-report_of t p (At i) (Sent x) = Refused (plain 23)
-report_of t p Nothing o = Refused (plain 23)
+unfoldable pub report_of : (t p : List ℕ) → Option ℕ → Outcome → Outcome
+report_of t p (Some i) (Refused r) = unless (row (none_due r.number p) 23 ∷ []) (Sent (icmp_packet (entry_at t i) r p))
+report_of t p (Some i) (Sent x) = Refused (plain 23)
+report_of t p None o = Refused (plain 23)
 
 -- the call: 23, then 16
 unfoldable pub icmp6 : (packet table : List ℕ) (room : ℕ) → Outcome

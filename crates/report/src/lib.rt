@@ -7,11 +7,11 @@ ghost use Rattle.rules.specs.Sound.{sound};
 ghost use Rattle.rules.specs.Match.{match_entry};
 ghost use Rattle.rules.specs.Answer.{given, any, packed, Refused, settle};
 ghost use Rattle.rules.specs.Calls.{translate6};
-ghost use Rattle.answer.specs.Answered.{Answered, Packs};
+ghost use Rattle.answer.specs.Answered.{Settled, Packs};
 ghost use Rattle.report.specs.Report.{is_unspecified, has_type, is_error_or_redirect, none_due, report_of, icmp6};
 
 use answer::Answer;
-use rules::{Found, Refusal, assigned};
+use rules::{Refusal, assigned};
 
 // The answers that a message is due about.
 const FIRST: u8 = 6;
@@ -32,7 +32,7 @@ const INFORMATIONAL: u8 = 128;
 fn is_unspecified(address: [u8; 16]) -> bool
     ensures { result ≡ is_unspecified address }
 {
-    (numbers::eight(&address, 0) == 0) & (numbers::eight(&address, 8) == 0)
+    u128::from_be_bytes(address) == 0
 }
 
 // The packet is an ICMPv6 error message or a Redirect, where this stands at the beginning of its upper layer.
@@ -47,9 +47,9 @@ fn is_error_or_redirect(h: rules::Header, kind: u8) -> bool
 fn none_due(answered: u8, packet: &[u8]) -> bool
     ensures { result ≡ any (none_due answered packet.now) }
 {
-    let h = ip::header_of(octets::window48(packet, 0), packet.len());
+    let h = ip::header_of(octets::window::<48>(packet, 0), packet.len());
     let kind = octets::octet_or_0(packet, h.upperAt as usize);
-    let source = octets::window16(packet, SOURCE_AT);
+    let source = octets::window::<16>(packet, SOURCE_AT);
     (answered < FIRST)
         | ((LAST < answered)
             | ((source[0] == MULTICAST)
@@ -76,29 +76,29 @@ fn refusal_in(answer: u64) -> Refusal
       pointer = answer / 0x1000000 % 0x10000;
     } }
 {
+    let fields = answer.to_le_bytes();
     Refusal {
-        number: (answer % 0x100) as u8,
-        icmpType: (answer / 0x100 % 0x100) as u8,
-        icmpCode: (answer / 0x10000 % 0x100) as u8,
-        pointer: (answer / 0x1000000 % 0x10000) as u16,
+        number: fields[0],
+        icmpType: fields[1],
+        icmpCode: fields[2],
+        pointer: u16::from_le_bytes([fields[3], fields[4]]),
     }
 }
 
 // About a packet that was refused with r: row 23, then the message from the entry that is the longest match.
-fn about(r: Refusal, packet: &[u8], table: &[u8], out: &mut [u8]) -> Answer
+fn about(r: Refusal, packet: &[u8], table: &[u8], out: &mut [u8]) -> Result<usize, Refusal>
     requires { sound table.now ≡ true }
-    ensures { Answered (settle (length out.old) (report_of table.now packet.now
+    ensures { Settled (settle (length out.old) (report_of table.now packet.now
         (match_entry table.now (Ipv6.destination packet.now)) (Refused r))) out.old result out.new }
 {
     if none_due(r.number, packet) {
-        return Answer::refused(Refusal::none_due());
+        return Err(Refusal::none_due());
     }
-    let destination = octets::window16(packet, DESTINATION_AT);
-    let found = matching::find_entry(table, &destination);
-    match found {
-        Found::Nothing => Answer::refused(Refusal::none_due()),
-        Found::At(i) => icmp::send(records::entry_at(table, i), r, packet, out),
-    }
+    let destination = octets::window::<16>(packet, DESTINATION_AT);
+    let Some(i) = matching::find_entry(table, &destination) else {
+        return Err(Refusal::none_due());
+    };
+    icmp::send(records::entry_at(table, i), r, packet, out)
 }
 
 // The ICMPv6 message about an IPv6 packet, answered in one number.
@@ -110,6 +110,5 @@ pub fn icmp_ipv6(packet: &[u8], table: &[u8], out: &mut [u8]) -> u64
         return Answer::refused(Refusal::none_due()).pack();
     }
     let r = refusal_in(decided(packet, table));
-    let a = about(r, packet, table, out);
-    a.pack()
+    Answer::from(about(r, packet, table, out)).pack()
 }

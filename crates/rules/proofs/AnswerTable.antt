@@ -31,9 +31,7 @@ use Rattle.rules.specs.Refused.{upper_at}
 use Rattle.rules.specs.Given.{icmp, without_icmp, with_icmp}
 use Rattle.rules.specs.declared.Datagram.{Datagram}
 use Rattle.rules.specs.declared.Refusal.{Refusal}
-use Rattle.rules.specs.declared.Verdict.TheVariants.{Refuse}
-use Rattle.rules.specs.declared.Found.{Found}
-use Rattle.rules.specs.declared.Found.TheVariants.{At, Nothing}
+use Rattle.std.specs.Prelude.{Option, Some, None, Err}
 use Rattle.rules.proofs.Conditions.{and_left, and_right}
 
 -- EACH BEHAVIOUR'S REFUSALS
@@ -96,12 +94,12 @@ pub record Tabled (refusal_of : ℕ → Refusal) (k : ℕ) (rs : List Row) : Typ
   pub each : EachProper refusal_of rs
 
 pub verdict_proper : (refusal_of : ℕ → Refusal) (rs : List Row) (ρ : Refusal)
-    → EachProper refusal_of rs → verdict rs ≡ Refuse ρ → Proper refusal_of ρ
+    → EachProper refusal_of rs → verdict rs ≡ Err ρ → Proper refusal_of ρ
 unfolding verdict
 verdict_proper refusal_of [] ρ a h = let z : ◌≡◌ {A = ℕ} 0 1 = cc in absurd (omega arith)
 verdict_proper refusal_of (r ∷ rs) ρ a h = go (any r.tests) h (verdict_proper refusal_of rs ρ a.1)
   where
-    go : (b : Bool) → cond b (Refuse r.refusal) (verdict rs) ≡ Refuse ρ → (verdict rs ≡ Refuse ρ → Proper refusal_of ρ)
+    go : (b : Bool) → cond b (Err r.refusal) (verdict rs) ≡ Err ρ → (verdict rs ≡ Err ρ → Proper refusal_of ρ)
         → Proper refusal_of ρ
     go true h ih = let q : r.refusal ≡ ρ = cc in rw q at a.0
     go false h ih = ih h
@@ -207,10 +205,10 @@ module _ (p t : List ℕ) (room : ℕ) where
   unfolding rows6 front_rows6 decide_found_entry place
   tabled6 = go (match_entry t (Ipv6.destination p))
     where
-      go : (f : Found) → let d = decide_found_entry t p f in
+      go : (f : Option ℕ) → let d = decide_found_entry t p f in
           Tabled (with_icmp (upper_at p)) 0 ((front_rows6 t (header p) ++ d.rows) ++ room_row room d.packet ∷ [])
-      go Nothing = tabled refl refl refl
-      go (At i) =
+      go None = tabled refl refl refl
+      go (Some i) =
           let e = entry_tabled (entry_at t i) in
           record { order = e.order; each = (proper refl refl, (proper refl refl, (proper refl refl, e.each))) }
 
@@ -234,9 +232,9 @@ module _ (p t : List ℕ) (room : ℕ) where
   unfolding rows4 front_rows4 decide_found_rule place
   tabled4 = go (match_rule t (Ipv4.destination p))
     where
-      go : (f : Found) → let d = decide_found_rule t p f in
+      go : (f : Option ℕ) → let d = decide_found_rule t p f in
           Tabled without_icmp 0 ((front_rows4 t (header4 p) ++ d.rows) ++ room_row room d.packet ∷ [])
-      go Nothing = tabled refl refl refl
-      go (At k) =
+      go None = tabled refl refl refl
+      go (Some k) =
           let e = rule_tabled (rule_at t k) in
           record { order = e.order; each = (proper refl refl, (proper refl refl, (proper refl refl, (proper refl refl, e.each)))) }

@@ -24,7 +24,7 @@ use Rattle.rules.specs.Gtp6D.{gtp6_rows, checksum_rows, gtp6d_rows, rows_gtp6d, 
 use Rattle.rules.specs.D4.{gtp4_rows, d4_rows, d4_packet, rows_d4, rows_echo4, decide_g_pdu4, decide_echo4, decide_d4}
 use Rattle.rules.specs.Written.{TrueChecksum, EchoFields, WrittenEcho6, WrittenEcho4}
 use Rattle.rules.specs.Sent.{Taken}
-use Rattle.rules.specs.declared.Verdict.TheVariants.{Pass}
+use Rattle.std.specs.Prelude.{Ok}
 use Rattle.rules.proofs.Windows.{window-length, octets-window, octets-drop}
 use Rattle.rules.proofs.Checksums.{octets-each}
 use Rattle.rules.proofs.UdpChecksums.{sent_true}
@@ -180,7 +180,7 @@ reply4-size r p = simp length-append (omega (arith, window-length p 16 4, window
 -- WHAT A REPLY IS TO WHOEVER GETS IT
 
 -- a well-formed message: rows 9 and 10 pass
-pub reply_parses : (k : ℕ) (u : List ℕ) → verdict (message_rows [] (datagram (echo_answer k u))) ≡ Pass
+pub reply_parses : (k : ℕ) (u : List ℕ) → verdict (message_rows [] (datagram (echo_answer k u))) ≡ Ok tt
 unfolding message_rows datagram
 reply_parses k u = none_pass (message_rows [] (datagram (echo_answer k u))) (omega clear)
 

@@ -20,8 +20,7 @@ use Rattle.rules.specs.E4.{at_e4}
 use Rattle.rules.specs.Calls.{decide_entry, at_entry, at_found_entry, front_rows6, translate6}
 use Rattle.rules.specs.Trip.{Stop, call}
 use Rattle.rules.specs.Demand3.{AtEntry}
-use Rattle.rules.specs.declared.Found.{Found}
-use Rattle.rules.specs.declared.Found.TheVariants.{At}
+use Rattle.std.specs.Prelude.{Option, Some}
 use Rattle.rules.proofs.Rows.{Clear, unless-none, unless-sent, settle-sent, sent-settle}
 use Rattle.rules.proofs.Deciding.{settled6, at_found-entry}
 use Rattle.rules.proofs.Trips.{call_v6}
@@ -49,17 +48,17 @@ module _ (t e p : List ℕ) where
 
 -- where rows 1 and 2 pass, the call is decided at the entry that is found
 pub decide_entry_lem : (t p : List ℕ) (room i : ℕ) → sound t ≡ true → Clear (malformed (header p)) → match_entry t (Ipv6.destination p)
-    ≡ At i
+    ≡ Some i
     → translate6 p t room ≡ settle room (at_entry t (entry_at t i) p)
 unfolding front_rows6
 decide_entry_lem t p room i hs hm hf =
     settled6 p t room
     ∙ ap (settle room)
     (unless-none (front_rows6 t (header p)) (at_found_entry t p (match_entry t (Ipv6.destination p))) ((rw hs, tt), (hm, tt))
-    ∙ ap (λ (f : Found). at_found_entry t p f) hf ∙ at_found-entry t p i)
+    ∙ ap (λ (f : Option ℕ). at_found_entry t p f) hf ∙ at_found-entry t p i)
 
 module _ (s : Stop) (p d x : List ℕ) (b i : ℕ) (a : AtEntry s d b i) (hd : Ipv6.destination p ≡ d) where
-  found_at : match_entry s.table (Ipv6.destination p) ≡ At i
+  found_at : match_entry s.table (Ipv6.destination p) ≡ Some i
   found_at = rw hd a.matches
 
   -- where the entry decides to send, and there is room, the call sends
@@ -80,4 +79,4 @@ module _ (s : Stop) (p d x : List ℕ) (b i : ℕ) (a : AtEntry s d b i) (hd : I
       let o = unless (front_rows6 t (header p)) (at_found_entry t p (match_entry t (Ipv6.destination p))) in
       let k₁ = sent-settle room o x (sym (settled6 p t room) ∙ sym (call_v6 s p a.call) ∙ hc) in
       let (n, k₂) = unless-sent (front_rows6 t (header p)) (at_found_entry t p (match_entry t (Ipv6.destination p))) x k₁ in
-      (n.1.0, sym (ap (λ (f : Found). at_found_entry t p f) found_at ∙ at_found-entry t p i) ∙ k₂)
+      (n.1.0, sym (ap (λ (f : Option ℕ). at_found_entry t p f) found_at ∙ at_found-entry t p i) ∙ k₂)

@@ -12,13 +12,12 @@ use borrow.Author.Tests.{ne_eqb}
 use Rattle.rules.specs.Octets.{Octets, window, splice}
 use Rattle.rules.specs.Ipv6 as Ipv6
 use Rattle.rules.specs.Srh as Srh
-use Rattle.rules.specs.Answer.{Row, verdict, applies, Decision, Outcome, Sent, Refused, after, outcome, in_room, overlay, packed}
+use Rattle.rules.specs.Answer.{Row, verdict, applies, Decision, Outcome, Sent, Refused, after, outcome, in_room, overlay, packed, Verdict}
 use Rattle.rules.specs.Calls.{decide6, decide4, rows6, rows4, translate6, translate4}
 use Rattle.rules.specs.Refused.{upper_at}
 use Rattle.rules.specs.Given.{GoesBy, Smallest, icmp, without_icmp, with_icmp, ReadBack, Listed, Leaves}
 use Rattle.rules.specs.declared.Refusal.{Refusal}
-use Rattle.rules.specs.declared.Verdict.{Verdict}
-use Rattle.rules.specs.declared.Verdict.TheVariants.{Pass, Refuse}
+use Rattle.std.specs.Prelude.{Ok, Err}
 use Rattle.rules.proofs.Smallest.{after-refused, goes_by, smaller_before, checksum_before}
 use Rattle.rules.proofs.AnswerTable.{Proper, EachProper, Tabled, verdict_proper, tabled6, tabled4}
 use Rattle.rules.proofs.Splices.{splice-length, splice-window, splice-other}
@@ -108,8 +107,8 @@ listed : (refusal_of : ℕ → Refusal) → ((n : ℕ) → Fits (refusal_of n)) 
 listed refusal_of fits d each = go (verdict d.rows) refl
   where
     go : (v : Verdict) → verdict d.rows ≡ v → Listed refusal_of (after v (Sent d.packet))
-    go Pass e = Listed.sent d.packet refl (sent-read d.packet)
-    go (Refuse r) e =
+    go (Ok tt) e = Listed.sent d.packet refl (sent-read d.packet)
+    go (Err r) e =
         let q = verdict_proper refusal_of d.rows r each e in
         let (ht, (hc, hp)) = subst Fits (sym q.fields) (fits r.number) in
         let l = refused-read r (omega (arith, q.most)) ht hc hp in

@@ -39,8 +39,7 @@ use Rattle.rules.specs.Calls.{unsound_row, nothing, decide_entry, decide_found_e
 use Rattle.rules.specs.Calls.{front_rows6, front_rows4, rows6, rows4}
 use Rattle.rules.specs.Refused.{upper, upper_at, behind, NoEntry, NoRule, Echo, Other, GivenWaypoint, GivenGtp6D}
 use Rattle.rules.specs.Refused.{GivenE6, GivenE4, GivenD4, GivenAtEntry, Given6, Given4}
-use Rattle.rules.specs.declared.Found.{Found}
-use Rattle.rules.specs.declared.Found.TheVariants.{At, Nothing}
+use Rattle.std.specs.Prelude.{Option, Some, None}
 use Rattle.rules.proofs.SoundTables.{sound-table}
 use Rattle.rules.proofs.Windows.{window-length, octets-drop}
 use Rattle.rules.proofs.Longest.{Best, longest-best}
@@ -185,15 +184,15 @@ module _ (p t : List ℕ) (room : ℕ) where
   }
 
   -- the rows of the call, where an entry is found
-  rows_found : (i : ℕ) (d : Decision) → match_entry t (Ipv6.destination p) ≡ At i → decide_entry t (entry_at t i) p ≡ d
+  rows_found : (i : ℕ) (d : Decision) → match_entry t (Ipv6.destination p) ≡ Some i → decide_entry t (entry_at t i) p ≡ d
       → rows6 p t room ≡ rows_with d
   unfolding rows6 front_rows6 decide_found_entry
   rows_found i d m e = ap rows_at m ∙ ap rows_with e
     where
-      rows_at : Found → List Row
+      rows_at : Option ℕ → List Row
       rows_at f = let d = decide_found_entry t p f in (front_rows6 t (header p) ++ d.rows) ++ room_row room d.packet ∷ []
 
-  module _ (o : Octets p) (i : ℕ) (s : sound t ≡ true) (m : match_entry t (Ipv6.destination p) ≡ At i) where
+  module _ (o : Octets p) (i : ℕ) (s : sound t ≡ true) (m : match_entry t (Ipv6.destination p) ≡ Some i) where
     there : (P : (ℕ → Bool) → Type 0) (d : Decision) → decide_entry t (entry_at t i) p ≡ d
         → P (λ n. applies n (rows_with d)) → P (λ n. applies n (rows6 p t room))
     there P d e h = subst (λ (rs : List Row). P (λ n. applies n rs)) (sym (rows_found i d m e)) h
@@ -235,23 +234,23 @@ best-rule : (t to : List ℕ) → Best (rule_matches t to) (rule_bits t) (rules 
 unfolding match_rule
 best-rule t to = longest-best (rule_matches t to) (rule_bits t) (rules t)
 
-row_4 : (p t : List ℕ) (found : Found) → Best (entry_matches t (Ipv6.destination p)) (entry_bits t) (entries t) found
+row_4 : (p t : List ℕ) (found : Option ℕ) → Best (entry_matches t (Ipv6.destination p)) (entry_bits t) (entries t) found
     → Exactly (nothing found) (NoEntry p t)
 unfolding under first_bits
-row_4 p t Nothing b = (λ h i l e. b i l (eq-eqb _ _ e), λ h. refl)
-row_4 p t (At i) b = (λ h. absurd (true≢false (sym h)), λ n. absurd (n i b.below (eqb-true _ _ b.hit)))
+row_4 p t None b = (λ h i l e. b i l (eq-eqb _ _ e), λ h. refl)
+row_4 p t (Some i) b = (λ h. absurd (true≢false (sym h)), λ n. absurd (n i b.below (eqb-true _ _ b.hit)))
 
-row_4_ipv4 : (p t : List ℕ) (found : Found) → Best (rule_matches t (Ipv4.destination p)) (rule_bits t) (rules t) found
+row_4_ipv4 : (p t : List ℕ) (found : Option ℕ) → Best (rule_matches t (Ipv4.destination p)) (rule_bits t) (rules t) found
     → Exactly (nothing found) (NoRule p t)
 unfolding under first_bits
-row_4_ipv4 p t Nothing b = (λ h k l e. b k l (eq-eqb _ _ e), λ h. refl)
-row_4_ipv4 p t (At k) b = (λ h. absurd (true≢false (sym h)), λ n. absurd (n k b.below (eqb-true _ _ b.hit)))
+row_4_ipv4 p t None b = (λ h k l e. b k l (eq-eqb _ _ e), λ h. refl)
+row_4_ipv4 p t (Some k) b = (λ h. absurd (true≢false (sym h)), λ n. absurd (n k b.below (eqb-true _ _ b.hit)))
 
 -- row 1
 row_1 : (t : List ℕ) → Octets t → Exactly (not (sound t) || false) (SoundTable t → ⊥)
 row_1 t o = only_not (sound t) (SoundTable t) (sound-table t o)
 
-only_nothing : (found : Found) (P : Type 0) → Exactly (nothing found) P → Exactly (nothing found || false) P
+only_nothing : (found : Option ℕ) (P : Type 0) → Exactly (nothing found) P → Exactly (nothing found || false) P
 only_nothing found P (f, g) = only (nothing found) P f g
 
 -- THE CALLS
@@ -269,15 +268,15 @@ given_when6 p t room op ot =
       matched = λ s i m. entry-given p t room op i ((sound-table t ot).1 s) m;
     }
   where
-    third : (f : Found) → applies 3 ((decide_found_entry t p f).rows ++ room_row room (decide_found_entry t p f).packet ∷ []) ≡ false
-    third Nothing = refl
-    third (At i) = early (in_room room (decide_entry t (entry_at t i) p)).rows 4 3 (entry_tabled p t room (entry_at t i)).order
+    third : (f : Option ℕ) → applies 3 ((decide_found_entry t p f).rows ++ room_row room (decide_found_entry t p f).packet ∷ []) ≡ false
+    third None = refl
+    third (Some i) = early (in_room room (decide_entry t (entry_at t i) p)).rows 4 3 (entry_tabled p t room (entry_at t i)).order
         (omega arith)
 
-    fourth : (f : Found) → Best (entry_matches t (Ipv6.destination p)) (entry_bits t) (entries t) f
+    fourth : (f : Option ℕ) → Best (entry_matches t (Ipv6.destination p)) (entry_bits t) (entries t) f
         → Exactly (applies 4 ((decide_found_entry t p f).rows ++ room_row room (decide_found_entry t p f).packet ∷ [])) (NoEntry p t)
-    fourth Nothing b = only_nothing Nothing (NoEntry p t) (row_4 p t Nothing b)
-    fourth (At i) b = only_nothing (At i) (NoEntry p t) (row_4 p t (At i) b)
+    fourth None b = only_nothing None (NoEntry p t) (row_4 p t None b)
+    fourth (Some i) b = only_nothing (Some i) (NoEntry p t) (row_4 p t (Some i) b)
 
 -- OVER IPV4
 
@@ -375,14 +374,14 @@ given_when4 p t room op ot =
           subst (λ (rs : List Row). GivenD4 (rule_at t k) p room (λ n. applies n rs)) (sym (found k m)) g;
     }
   where
-    fourth : (f : Found) → Best (rule_matches t (Ipv4.destination p)) (rule_bits t) (rules t) f
+    fourth : (f : Option ℕ) → Best (rule_matches t (Ipv4.destination p)) (rule_bits t) (rules t) f
         → Exactly (applies 4 ((decide_found_rule t p f).rows ++ room_row room (decide_found_rule t p f).packet ∷ [])) (NoRule p t)
-    fourth Nothing b = only_nothing Nothing (NoRule p t) (row_4_ipv4 p t Nothing b)
-    fourth (At k) b = only_nothing (At k) (NoRule p t) (row_4_ipv4 p t (At k) b)
+    fourth None b = only_nothing None (NoRule p t) (row_4_ipv4 p t None b)
+    fourth (Some k) b = only_nothing (Some k) (NoRule p t) (row_4_ipv4 p t (Some k) b)
 
-    found : (k : ℕ) → match_rule t (Ipv4.destination p) ≡ At k → rows4 p t room
+    found : (k : ℕ) → match_rule t (Ipv4.destination p) ≡ Some k → rows4 p t room
         ≡ rows_with4 (rule_at t k) p t room (decide_d4 (rule_at t k) p)
     found k m = ap rows_at m
       where
-        rows_at : Found → List Row
+        rows_at : Option ℕ → List Row
         rows_at f = let d = decide_found_rule t p f in (front_rows4 t (header4 p) ++ d.rows) ++ room_row room d.packet ∷ []

@@ -15,8 +15,7 @@ use Rattle.rules.specs.Entry as Entry
 use Rattle.rules.specs.Rule as Rule
 use Rattle.rules.specs.Sound.{entry_sound, rule_sound, same_entry_prefix, same_rule_prefix, sound_within}
 use Rattle.rules.specs.Match.{longer, longest, entry_matches, entry_bits, rule_matches, rule_bits, match_entry, match_rule}
-use Rattle.rules.specs.declared.Found.{Found}
-use Rattle.rules.specs.declared.Found.TheVariants.{At, Nothing}
+use Rattle.std.specs.Prelude.{Option, Some, None}
 use Rattle.rules.proofs.Conditions.{conjunct, sound_parts}
 use Rattle.rules.proofs.Prefixes.{one_prefix}
 
@@ -27,9 +26,9 @@ pub record BestAt (matches : ℕ → Bool) (bits : ℕ → ℕ) (n i : ℕ) : Ty
   pub most : (j : ℕ) → j < n → matches j ≡ true → bits j ≤ bits i
 
 -- what is found is a longest match below n: such a number, or nothing where none matches
-abbrev pub Best : (matches : ℕ → Bool) (bits : ℕ → ℕ) (n : ℕ) → Found → Type 0
-Best matches bits n Nothing = (j : ℕ) → j < n → matches j ≡ true → ⊥
-Best matches bits n (At i) = BestAt matches bits n i
+abbrev pub Best : (matches : ℕ → Bool) (bits : ℕ → ℕ) (n : ℕ) → Option ℕ → Type 0
+Best matches bits n None = (j : ℕ) → j < n → matches j ≡ true → ⊥
+Best matches bits n (Some i) = BestAt matches bits n i
 
 module _ (matches : ℕ → Bool) (bits : ℕ → ℕ) where
   -- what holds of the matches below n, and of n where it matches, holds of those below n + 1
@@ -42,21 +41,21 @@ module _ (matches : ℕ → Bool) (bits : ℕ → ℕ) where
       pick (no d) = front j (omega arith) h
 
   -- a number that does not match changes nothing
-  best_miss : (n : ℕ) (found : Found) → matches n ≡ false → Best matches bits n found → Best matches bits (suc n) found
-  best_miss n Nothing e b = one_more (λ j. ⊥) n b (λ h. true≢false (sym h ∙ e))
-  best_miss n (At i) e b =
+  best_miss : (n : ℕ) (found : Option ℕ) → matches n ≡ false → Best matches bits n found → Best matches bits (suc n) found
+  best_miss n None e b = one_more (λ j. ⊥) n b (λ h. true≢false (sym h ∙ e))
+  best_miss n (Some i) e b =
       record {
         below = omega arith;
         hit = b.hit;
         most = one_more (λ j. bits j ≤ bits i) n b.most (λ h. absurd (true≢false (sym h ∙ e)));
       }
 
-  best_hit : (n : ℕ) (found : Found) → matches n ≡ true → Best matches bits n found → Best matches bits (suc n) (longer bits found n)
-  best_hit n Nothing e b =
+  best_hit : (n : ℕ) (found : Option ℕ) → matches n ≡ true → Best matches bits n found → Best matches bits (suc n) (longer bits found n)
+  best_hit n None e b =
       record { below = omega arith; hit = e; most = one_more (λ j. bits j ≤ bits n) n (λ j l h. absurd (b j l h)) (λ h. omega arith) }
-  best_hit n (At i) e b = pick (ltb (bits i) (bits n)) refl
+  best_hit n (Some i) e b = pick (ltb (bits i) (bits n)) refl
     where
-      pick : (longer : Bool) → ltb (bits i) (bits n) ≡ longer → Best matches bits (suc n) (cond longer (At n) (At i))
+      pick : (longer : Bool) → ltb (bits i) (bits n) ≡ longer → Best matches bits (suc n) (cond longer (Some n) (Some i))
       pick true q =
           record {
             below = omega arith;
@@ -76,27 +75,27 @@ module _ (matches : ℕ → Bool) (bits : ℕ → ℕ) where
       pick true e h = best_hit n (longest matches bits n) e h
       pick false e h = best_miss n (longest matches bits n) e h
 
-  pub longest_at : (n i : ℕ) → longest matches bits n ≡ At i → BestAt matches bits n i
+  pub longest_at : (n i : ℕ) → longest matches bits n ≡ Some i → BestAt matches bits n i
   longest_at n i e = rw e at (longest-best n)
 
-  pub longest-below : (n i : ℕ) → longest matches bits n ≡ At i → i < n
+  pub longest-below : (n i : ℕ) → longest matches bits n ≡ Some i → i < n
   longest-below n i e = (longest_at n i e).below
 
   -- where no two matches have equally many bits, there is one longest only
   pub best_one : (n : ℕ) → ((i j : ℕ) → i < n → j < n → matches i ≡ true → matches j ≡ true → bits i ≡ bits j → i ≡ j)
-      → (f g : Found) → Best matches bits n f → Best matches bits n g → f ≡ g
-  best_one n one Nothing Nothing b c = refl
-  best_one n one Nothing (At j) b c = absurd (b j c.below c.hit)
-  best_one n one (At i) Nothing b c = absurd (c i b.below b.hit)
-  best_one n one (At i) (At j) b c =
-      ap At (one i j b.below c.below b.hit c.hit (omega (arith, b.most j c.below c.hit, c.most i b.below b.hit)))
+      → (f g : Option ℕ) → Best matches bits n f → Best matches bits n g → f ≡ g
+  best_one n one None None b c = refl
+  best_one n one None (Some j) b c = absurd (b j c.below c.hit)
+  best_one n one (Some i) None b c = absurd (c i b.below b.hit)
+  best_one n one (Some i) (Some j) b c =
+      ap Some (one i j b.below c.below b.hit c.hit (omega (arith, b.most j c.below c.hit, c.most i b.below b.hit)))
 
 -- what the matches of a table find
-pub matched_entry : (t a : List ℕ) (i : ℕ) → match_entry t a ≡ At i → BestAt (entry_matches t a) (entry_bits t) (entries t) i
+pub matched_entry : (t a : List ℕ) (i : ℕ) → match_entry t a ≡ Some i → BestAt (entry_matches t a) (entry_bits t) (entries t) i
 unfolding match_entry
 matched_entry t a i e = longest_at (entry_matches t a) (entry_bits t) (entries t) i e
 
-pub matched_rule : (t a : List ℕ) (k : ℕ) → match_rule t a ≡ At k → BestAt (rule_matches t a) (rule_bits t) (rules t) k
+pub matched_rule : (t a : List ℕ) (k : ℕ) → match_rule t a ≡ Some k → BestAt (rule_matches t a) (rule_bits t) (rules t) k
 unfolding match_rule
 matched_rule t a k e = longest_at (rule_matches t a) (rule_bits t) (rules t) k e
 
@@ -138,10 +137,10 @@ module _ (limit : ℕ) (t a : List ℕ) (s : sound_within limit t ≡ true) wher
       let c = h.rule k l in search conjunct depth 20) h.rule_apart a
 
   -- whoever finds a longest match finds the one that the table's own match does
-  pub the_longest-entry : (found : Found) → Best (entry_matches t a) (entry_bits t) (entries t) found → match_entry t a ≡ found
+  pub the_longest-entry : (found : Option ℕ) → Best (entry_matches t a) (entry_bits t) (entries t) found → match_entry t a ≡ found
   unfolding match_entry
   the_longest-entry found b = best_one (entry_matches t a) (entry_bits t) (entries t) entry_one _ found (longest-best _ _ _) b
 
-  pub the_longest-rule : (found : Found) → Best (rule_matches t a) (rule_bits t) (rules t) found → match_rule t a ≡ found
+  pub the_longest-rule : (found : Option ℕ) → Best (rule_matches t a) (rule_bits t) (rules t) found → match_rule t a ≡ found
   unfolding match_rule
   the_longest-rule found b = best_one (rule_matches t a) (rule_bits t) (rules t) rule_one _ found (longest-best _ _ _) b

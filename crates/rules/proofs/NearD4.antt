@@ -26,8 +26,7 @@ use Rattle.rules.specs.E4.{e4_packet, e4_total_length}
 use Rattle.rules.specs.Calls.{front_rows4, at_found_rule}
 use Rattle.rules.specs.Trip.{Stop, call}
 use Rattle.rules.specs.Demand3.{AtRule}
-use Rattle.rules.specs.declared.Found.{Found}
-use Rattle.rules.specs.declared.Found.TheVariants.{At}
+use Rattle.std.specs.Prelude.{Option, Some}
 use Rattle.rules.proofs.Windows.{drop_past, window-length, window-past, window_front}
 use Rattle.rules.proofs.Rows.{Clear, None, clear, read, none_parts, parts_none, unless-none, unless-sent, settle-sent, sent-settle}
 use Rattle.rules.proofs.FarE6.{Valid}
@@ -116,7 +115,7 @@ carried4-destination p = refl
 -- THE CALL
 
 module _ (s : Stop) (p d : List ℕ) (k : ℕ) (a : AtRule s d k) (hd : Ipv4.destination p ≡ d) where
-  found_at : match_rule s.table (Ipv4.destination p) ≡ At k
+  found_at : match_rule s.table (Ipv4.destination p) ≡ Some k
   found_at = rw hd a.matches
 
   pub call_passed : (x : List ℕ) → Gtpu.message_type (datagram_in4 p) ≡ g_pdu → call s p ≡ Sent x → Passed (rule_at s.table k) p
@@ -127,7 +126,7 @@ module _ (s : Stop) (p d : List ℕ) (k : ℕ) (a : AtRule s d k) (hd : Ipv4.des
       let found = at_found_rule t p (match_rule t (Ipv4.destination p)) in
       let k₁ = sent-settle room (unless (front_rows4 t (header4 p)) found) x (sym (settled4 p t room) ∙ sym (call_v4 s p a.call) ∙ hc) in
       let (n, k₂) = unless-sent (front_rows4 t (header4 p)) found x k₁ in
-      sent_passed (rule_at t k) p x type n.1.0 n.1.1.0 (sym (ap (λ (f : Found). at_found_rule t p f) found_at ∙ at_found-rule t p k)
+      sent_passed (rule_at t k) p x type n.1.0 n.1.1.0 (sym (ap (λ (f : Option ℕ). at_found_rule t p f) found_at ∙ at_found-rule t p k)
       ∙ k₂)
 
   pub passed_call : (r : List ℕ) → rule_at s.table k ≡ r → Passed r p → length (d4_packet r (carried4 p)) ≤ length s.buffer
@@ -140,7 +139,7 @@ module _ (s : Stop) (p d : List ℕ) (k : ℕ) (a : AtRule s d k) (hd : Ipv4.des
       ∙ settled4 p t (length s.buffer)
       ∙ settle-sent (length s.buffer) (unless (front_rows4 t (header4 p)) found) (d4_packet r (carried4 p))
       (unless-none (front_rows4 t (header4 p)) found ((rw a.sound, tt), (n.front, (n.ipv4, tt)))
-      ∙ ap (λ (f : Found). at_found_rule t p f) found_at
+      ∙ ap (λ (f : Option ℕ). at_found_rule t p f) found_at
       ∙ at_found-rule t p k
       ∙ ap (λ (r : List ℕ). at_d4 r p) hr
       ∙ passed_sent r p n)

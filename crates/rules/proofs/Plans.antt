@@ -28,7 +28,7 @@ use Rattle.rules.specs.Header.{header, has_srh, bad_srh}
 use Rattle.rules.specs.Session.{inner_protocol}
 use Rattle.rules.specs.Srv6.{srv6, past_waypoints}
 use Rattle.rules.specs.Carried.{carried_by, carried6, carried4, datagram_in6, datagram_in4}
-use Rattle.rules.specs.Answer.{given, verdict, Outcome, Sent, Refused, after, unless, outcome}
+use Rattle.rules.specs.Answer.{given, verdict, Outcome, Sent, Refused, after, unless, outcome, Verdict}
 use Rattle.rules.specs.Datagram.{datagram}
 use Rattle.rules.specs.Echo.{is_echo, echo_reply6, echo_reply4}
 use Rattle.rules.specs.Waypoint.{Routing, routing, step, with_routing, forwarded, underway, step_rows, waypoint_rows, at_waypoint}
@@ -41,8 +41,7 @@ use Rattle.rules.specs.D4.{d4_sid, d4_source, d4_packet, rows_d4, rows_echo4, de
 use Rattle.rules.specs.Plan.{Plan, sent_by, carry_out, e6_head, e4_head, path_front, path_head, tail_of}
 use Rattle.rules.specs.Plan.{head_along, gtp6d_path, at_gtp6d, inner_at, d4_head}
 use Rattle.rules.specs.Plan.{waypoint_plan, echo_plan6, g_pdu_plan6, gtp6d_plan, e6_plan, e4_plan, echo_plan4, g_pdu_plan4, d4_plan}
-use Rattle.rules.specs.declared.Verdict.{Verdict}
-use Rattle.rules.specs.declared.Verdict.TheVariants.{Pass, Refuse}
+use Rattle.std.specs.Prelude.{Ok, Err}
 use Rattle.rules.proofs.Windows.{window-length, window-take}
 use Rattle.rules.proofs.Reading.{segments-append}
 use Rattle.rules.proofs.Paths.{addresses_at-length}
@@ -347,7 +346,7 @@ routed_front p s hp hd =
     ∙ ap (λ (l : List ℕ). splice (splice (splice l 7 hops) 24 s.destination) 43 left) w
 
 -- a waypoint's rows pass only where there are 48 octets
-pub passes_long : (p : List ℕ) → verdict (waypoint_rows (header p)) ≡ Pass → 48 ≤ length p
+pub passes_long : (p : List ℕ) → verdict (waypoint_rows (header p)) ≡ Ok tt → 48 ≤ length p
 unfolding waypoint_rows step_rows header
 passes_long p e =
     let h = header p in
@@ -365,8 +364,8 @@ waypoint_carried_out p = go (verdict (waypoint_rows (header p))) refl
     next = step (routing p) (Srh.segment p (Srh.segments_left p - 1))
 
     go : (v : Verdict) → verdict (waypoint_rows (header p)) ≡ v → carry_out (waypoint_plan p) p ≡ at_waypoint p
-    go Pass e = ap (λ (x : List ℕ). unless (waypoint_rows (header p)) (Sent x)) (routed_front p next (passes_long p e) (window-length p
+    go (Ok tt) e = ap (λ (x : List ℕ). unless (waypoint_rows (header p)) (Sent x)) (routed_front p next (passes_long p e) (window-length p
         (48 + 16 * (Srh.segments_left p - 1)) 16))
-    go (Refuse r) e =
+    go (Err r) e =
         let f : (o : Outcome) → unless (waypoint_rows (header p)) o ≡ Refused r = λ o. ap (λ (v : Verdict). after v o) e in
         f _ ∙ sym (f _)

@@ -7,9 +7,8 @@ use native.Mathlib.Omega.{arith}
 use lib.Dec.{eqb}
 use lib.ListN.{length}
 use borrow.Author.Tests.{le-ltb, lt-leb, eq-eqb, ne_eqb, eqb-true, not-false, ltb-false, leb-false}
-use Rattle.rules.specs.Answer.{Row, differs, any, verdict, Outcome, Sent, Refused, after, unless, settle, room_row}
-use Rattle.rules.specs.declared.Verdict.{Verdict}
-use Rattle.rules.specs.declared.Verdict.TheVariants.{Pass, Refuse}
+use Rattle.rules.specs.Answer.{Row, differs, any, verdict, Outcome, Sent, Refused, after, unless, settle, room_row, Verdict}
+use Rattle.std.specs.Prelude.{Ok, Err}
 
 -- each test of a row fails; so for each row
 abbrev pub Clear : List Bool → Type 0
@@ -29,17 +28,17 @@ any-clear [] e = tt
 any-clear (true ∷ bs) e = absurd (true≢false e)
 any-clear (false ∷ bs) e = (refl, any-clear bs e)
 
-pub none_pass : (rs : List Row) → None rs → verdict rs ≡ Pass
+pub none_pass : (rs : List Row) → None rs → verdict rs ≡ Ok tt
 unfolding verdict
 none_pass [] n = refl
 none_pass (r ∷ rs) n = rw (clear-any r.tests n.0) (none_pass rs n.1)
 
-pub pass_none : (rs : List Row) → verdict rs ≡ Pass → None rs
+pub pass_none : (rs : List Row) → verdict rs ≡ Ok tt → None rs
 unfolding verdict
 pass_none [] e = tt
 pass_none (r ∷ rs) e = let (q, f) = first (any r.tests) e in (any-clear r.tests q, pass_none rs f)
   where
-    first : (b : Bool) → cond b (Refuse r.refusal) (verdict rs) ≡ Pass → (b ≡ false) × (verdict rs ≡ Pass)
+    first : (b : Bool) → cond b (Err r.refusal) (verdict rs) ≡ Ok tt → (b ≡ false) × (verdict rs ≡ Ok tt)
     first true f = let z : ◌≡◌ {A = ℕ} 0 1 = cc in absurd (omega arith)
     first false f = (refl, f)
 
@@ -70,9 +69,9 @@ parts_none a b c d na nb nc nd = none-append a (b ++ (c ++ d)) na (none-append b
 pub unless-none : (rs : List Row) (o : Outcome) → None rs → unless rs o ≡ o
 unless-none rs o n = rw (none_pass rs n)
 
-pub after-sent : (v : Verdict) (o : Outcome) (x : List ℕ) → after v o ≡ Sent x → (v ≡ Pass) × (o ≡ Sent x)
-after-sent Pass o x e = (refl, e)
-after-sent (Refuse r) o x e = let z : ◌≡◌ {A = ℕ} 0 1 = cc in absurd (omega arith)
+pub after-sent : (v : Verdict) (o : Outcome) (x : List ℕ) → after v o ≡ Sent x → (v ≡ Ok tt) × (o ≡ Sent x)
+after-sent (Ok tt) o x e = (refl, e)
+after-sent (Err r) o x e = let z : ◌≡◌ {A = ℕ} 0 1 = cc in absurd (omega arith)
 
 -- what is sent was refused by no row
 pub unless-sent : (rs : List Row) (o : Outcome) (x : List ℕ) → unless rs o ≡ Sent x → None rs × (o ≡ Sent x)

@@ -34,8 +34,7 @@ use Rattle.rules.specs.Calls.{decide4, rows6, rows4, translate6, translate4}
 use Rattle.rules.specs.Refused.{behind}
 use Rattle.rules.specs.Written.{WrittenWaypoint, WrittenD, WrittenDi, WrittenE6, WrittenE4, WrittenEcho6}
 use Rattle.rules.specs.Sent.{Taken, SentAtEntry, SentAtRule}
-use Rattle.rules.specs.declared.Found.{Found}
-use Rattle.rules.specs.declared.Found.TheVariants.{At, Nothing}
+use Rattle.std.specs.Prelude.{Option, Some, None}
 use Rattle.rules.proofs.Windows.{window-length, octets-window}
 use Rattle.rules.proofs.Conditions.{and_left, conjunct}
 use Rattle.rules.proofs.Rows.{Clear, read, none_back, unless-sent, sent-settle}
@@ -162,7 +161,7 @@ unfolding rule_at
 rule-ttl t k o = octets-window t _ 160 o 1
 
 pub sent6_written : (p t : List ℕ) (room : ℕ) (x : List ℕ) → Octets p → Octets t → translate6 p t room ≡ Sent x
-    → (i : ℕ) × ((match_entry t (Ipv6.destination p) ≡ At i) × SentAtEntry t (entry_at t i) p x)
+    → (i : ℕ) × ((match_entry t (Ipv6.destination p) ≡ Some i) × SentAtEntry t (entry_at t i) p x)
 unfolding front_rows6 at_d at_di
 sent6_written p t room x op ot h =
     let to = Ipv6.destination p in
@@ -171,11 +170,11 @@ sent6_written p t room x op ot h =
     let (n, k) = unless-sent rows rest x (sent-settle room (unless rows rest) x (sym (settled6 p t room) ∙ h)) in
     found (not-false (sound t) n.0.0) n.1.0 (match_entry t to) refl k
   where
-    found : sound t ≡ true → Clear (malformed (header p)) → (f : Found) → match_entry t (Ipv6.destination p) ≡ f
+    found : sound t ≡ true → Clear (malformed (header p)) → (f : Option ℕ) → match_entry t (Ipv6.destination p) ≡ f
         → at_found_entry t p f ≡ Sent x
-        → (i : ℕ) × ((match_entry t (Ipv6.destination p) ≡ At i) × SentAtEntry t (entry_at t i) p x)
-    found s front Nothing m h = let no = sym (at_no_entry t p) ∙ h in let z : ◌≡◌ {A = ℕ} 0 1 = cc in absurd (omega arith)
-    found s front (At i) m h =
+        → (i : ℕ) × ((match_entry t (Ipv6.destination p) ≡ Some i) × SentAtEntry t (entry_at t i) p x)
+    found s front None m h = let no = sym (at_no_entry t p) ∙ h in let z : ◌≡◌ {A = ℕ} 0 1 = cc in absurd (omega arith)
+    found s front (Some i) m h =
         let k = sym (at_found-entry t p i) ∙ h in
         let to = Ipv6.destination p in
         let e = entry_at t i in
@@ -201,7 +200,7 @@ sent6_written p t room x op ot h =
         )
 
 pub sent4_written : (p t : List ℕ) (room : ℕ) (x : List ℕ) → Octets p → Octets t → translate4 p t room ≡ Sent x
-    → (k : ℕ) × ((match_rule t (Ipv4.destination p) ≡ At k) × SentAtRule (rule_at t k) p x)
+    → (k : ℕ) × ((match_rule t (Ipv4.destination p) ≡ Some k) × SentAtRule (rule_at t k) p x)
 unfolding front_rows4
 sent4_written p t room x op ot h =
     let to = Ipv4.destination p in
@@ -210,10 +209,10 @@ sent4_written p t room x op ot h =
     let (n, k) = unless-sent rows rest x (sent-settle room (unless rows rest) x (sym (settled4 p t room) ∙ h)) in
     found (not-false (sound t) n.0.0) (match_rule t to) refl k
   where
-    found : sound t ≡ true → (f : Found) → match_rule t (Ipv4.destination p) ≡ f → at_found_rule t p f ≡ Sent x
-        → (k : ℕ) × ((match_rule t (Ipv4.destination p) ≡ At k) × SentAtRule (rule_at t k) p x)
-    found s Nothing m h = let no = sym (at_no_rule t p) ∙ h in let z : ◌≡◌ {A = ℕ} 0 1 = cc in absurd (omega arith)
-    found s (At j) m h =
+    found : sound t ≡ true → (f : Option ℕ) → match_rule t (Ipv4.destination p) ≡ f → at_found_rule t p f ≡ Sent x
+        → (k : ℕ) × ((match_rule t (Ipv4.destination p) ≡ Some k) × SentAtRule (rule_at t k) p x)
+    found s None m h = let no = sym (at_no_rule t p) ∙ h in let z : ◌≡◌ {A = ℕ} 0 1 = cc in absurd (omega arith)
+    found s (Some j) m h =
         let good = found-rule entry_limit t (Ipv4.destination p) j s m in
         (j, (m, d4_sent (rule_at t j) p x op good.p good.q (rule-ttl t j ot) (sym (at_found-rule t p j) ∙ h)))
 

@@ -7,12 +7,11 @@ use native.Mathlib.Omega.{arith}
 use native.Mathlib.Decide.{ℕ_discrete, dec_lt}
 use lib.Dec.{eqb, leb, ltb}
 use borrow.Author.Tests.{leb-true, ltb-true, le-leb, eq-eqb, ne_eqb}
-use Rattle.rules.specs.Answer.{Row, any, verdict, place, in_place, applies, Decision, Sent, Refused, after, outcome}
+use Rattle.rules.specs.Answer.{Row, any, verdict, place, in_place, applies, Decision, Sent, Refused, after, outcome, Verdict}
 use Rattle.rules.specs.Sound.{all, where_used}
 use Rattle.rules.specs.Given.{First, GoesBy}
 use Rattle.rules.specs.declared.Refusal.{Refusal}
-use Rattle.rules.specs.declared.Verdict.{Verdict}
-use Rattle.rules.specs.declared.Verdict.TheVariants.{Pass, Refuse}
+use Rattle.std.specs.Prelude.{Ok, Err}
 use Rattle.rules.proofs.Conditions.{and_left, and_right, all_at, where_used_lem}
 
 -- a row's number, and the first place behind its own
@@ -61,13 +60,13 @@ late rs k n o h = go (dec_lt (place n) k)
 -- A LIST OF ROWS
 
 -- a refusal has the first number that applies
-refused-first : (rs : List Row) (k : ℕ) (ρ : Refusal) → in_place k rs ≡ true → verdict rs ≡ Refuse ρ → First (λ n. applies n rs) ρ.number
+refused-first : (rs : List Row) (k : ℕ) (ρ : Refusal) → in_place k rs ≡ true → verdict rs ≡ Err ρ → First (λ n. applies n rs) ρ.number
 unfolding verdict
 refused-first [] k ρ o h = let z : ◌≡◌ {A = ℕ} 0 1 = cc in absurd (omega arith)
 refused-first (r ∷ rs) k ρ o h = go (any r.tests) refl h (λ e. refused-first rs (past r) ρ (rest r rs k o) e)
   where
-    go : (b : Bool) → any r.tests ≡ b → cond b (Refuse r.refusal) (verdict rs) ≡ Refuse ρ
-        → (verdict rs ≡ Refuse ρ → First (λ n. applies n rs) ρ.number) → First (λ n. applies n (r ∷ rs)) ρ.number
+    go : (b : Bool) → any r.tests ≡ b → cond b (Err r.refusal) (verdict rs) ≡ Err ρ
+        → (verdict rs ≡ Err ρ → First (λ n. applies n rs) ρ.number) → First (λ n. applies n (r ∷ rs)) ρ.number
     go true e h ih =
         let q : own r ≡ ρ.number = cc in
         rw (← q) (record {
@@ -88,7 +87,7 @@ refused-first (r ∷ rs) k ρ o h = go (any r.tests) refl h (λ e. refused-first
 
 -- and the first number that applies is refused with
 first-refused : (rs : List Row) (k n : ℕ) → in_place k rs ≡ true → First (λ n. applies n rs) n
-    → (ρ : Refusal) × ((verdict rs ≡ Refuse ρ) × (ρ.number ≡ n))
+    → (ρ : Refusal) × ((verdict rs ≡ Err ρ) × (ρ.number ≡ n))
 unfolding verdict
 first-refused [] k n o f = absurd (true≢false (sym f.itself))
 first-refused (r ∷ rs) k n o f =
@@ -108,20 +107,20 @@ first-refused (r ∷ rs) k n o f =
         pick m g (no c) = sym (further r rs m c) ∙ g
 
     go : (b : Bool) → any r.tests ≡ b → Dec (n ≡ own r)
-        → (First (λ n. applies n rs) n → (ρ : Refusal) × ((verdict rs ≡ Refuse ρ) × (ρ.number ≡ n)))
-        → (ρ : Refusal) × ((cond b (Refuse r.refusal) (verdict rs) ≡ Refuse ρ) × (ρ.number ≡ n))
+        → (First (λ n. applies n rs) n → (ρ : Refusal) × ((verdict rs ≡ Err ρ) × (ρ.number ≡ n)))
+        → (ρ : Refusal) × ((cond b (Err r.refusal) (verdict rs) ≡ Err ρ) × (ρ.number ≡ n))
     go true e (yes q) ih = (r.refusal, (refl, sym q))
     go true e (no d) ih = absurd (not_first e d)
     go false e (yes q) ih = absurd (true≢false (sym f.itself ∙ ap (λ (m : ℕ). applies m (r ∷ rs)) q ∙ here r rs ∙ e))
     go false e (no d) ih = ih (behind d)
 
 -- where every row passes no number applies
-passed_none : (rs : List Row) → verdict rs ≡ Pass → (n : ℕ) → applies n rs ≡ false
+passed_none : (rs : List Row) → verdict rs ≡ Ok tt → (n : ℕ) → applies n rs ≡ false
 unfolding verdict
 passed_none [] h n = refl
 passed_none (r ∷ rs) h n = go (any r.tests) refl h (λ e. passed_none rs e n)
   where
-    go : (b : Bool) → any r.tests ≡ b → cond b (Refuse r.refusal) (verdict rs) ≡ Pass → (verdict rs ≡ Pass → applies n rs ≡ false)
+    go : (b : Bool) → any r.tests ≡ b → cond b (Err r.refusal) (verdict rs) ≡ Ok tt → (verdict rs ≡ Ok tt → applies n rs ≡ false)
         → applies n (r ∷ rs) ≡ false
     go true e h ih = let z : ◌≡◌ {A = ℕ} 0 1 = cc in absurd (omega arith)
     go false e h ih = pick (ℕ_discrete n (own r))
@@ -131,7 +130,7 @@ passed_none (r ∷ rs) h n = go (any r.tests) refl h (λ e. passed_none rs e n)
         pick (no d) = further r rs n d ∙ ih h
 
 -- and where no number applies every row passes
-none_passed : (rs : List Row) (k : ℕ) → in_place k rs ≡ true → ((n : ℕ) → applies n rs ≡ false) → verdict rs ≡ Pass
+none_passed : (rs : List Row) (k : ℕ) → in_place k rs ≡ true → ((n : ℕ) → applies n rs ≡ false) → verdict rs ≡ Ok tt
 unfolding verdict
 none_passed [] k o h = refl
 none_passed (r ∷ rs) k o h =
@@ -143,13 +142,13 @@ none_passed (r ∷ rs) k o h =
 
 -- A DECISION
 
-pub after-refused : (v : Verdict) (x : List ℕ) (r : Refusal) → after v (Sent x) ≡ Refused r → v ≡ Refuse r
-after-refused Pass x r h = let z : ◌≡◌ {A = ℕ} 0 1 = cc in absurd (omega arith)
-after-refused (Refuse ρ) x r h = cc
+pub after-refused : (v : Verdict) (x : List ℕ) (r : Refusal) → after v (Sent x) ≡ Refused r → v ≡ Err r
+after-refused (Ok tt) x r h = let z : ◌≡◌ {A = ℕ} 0 1 = cc in absurd (omega arith)
+after-refused (Err ρ) x r h = cc
 
-after-sent : (v : Verdict) (x y : List ℕ) → after v (Sent x) ≡ Sent y → v ≡ Pass
-after-sent Pass x y h = refl
-after-sent (Refuse ρ) x y h = let z : ◌≡◌ {A = ℕ} 0 1 = cc in absurd (omega arith)
+after-sent : (v : Verdict) (x y : List ℕ) → after v (Sent x) ≡ Sent y → v ≡ Ok tt
+after-sent (Ok tt) x y h = refl
+after-sent (Err ρ) x y h = let z : ◌≡◌ {A = ℕ} 0 1 = cc in absurd (omega arith)
 
 pub goes_by : (d : Decision) → in_place 0 d.rows ≡ true → GoesBy (λ n. applies n d.rows) (outcome d)
 goes_by d o = record {

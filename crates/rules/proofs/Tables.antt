@@ -13,7 +13,7 @@ use Rattle.rules.specs.Sound.{every, direction_known, session_known, uses_sessio
 use Rattle.rules.specs.Sound.{entry_conditions, rule_conditions, entry_sound, rule_sound, policy_sound, sound_within}
 use Rattle.rules.specs.SoundRecord.{SoundPolicy, SoundGtp6D, SoundE6, SoundE4, SoundRule}
 use Rattle.rules.specs.SoundTable.{ArgsStart, RightPolicy}
-use Rattle.rules.specs.declared.Found.TheVariants.{At}
+use Rattle.std.specs.Prelude.{Some}
 use Rattle.rules.proofs.Conditions.{and_left, conjunct, Holds, every_holds, holding, where_used_lem, sound_parts}
 use Rattle.rules.proofs.SoundTables.{start_known, right-policy}
 use Rattle.rules.proofs.Longest.{matched_entry, matched_rule}
@@ -81,7 +81,7 @@ sound-rule r h =
 
 -- THE RECORD THAT IS FOUND
 
-module _ (limit : ℕ) (t a : List ℕ) (i : ℕ) (s : sound_within limit t ≡ true) (m : match_entry t a ≡ At i) where
+module _ (limit : ℕ) (t a : List ℕ) (i : ℕ) (s : sound_within limit t ≡ true) (m : match_entry t a ≡ Some i) where
   pub found_below : i < entries t
   found_below = (matched_entry t a i m).below
 
@@ -111,5 +111,5 @@ module _ (limit : ℕ) (t a : List ℕ) (i : ℕ) (s : sound_within limit t ≡ 
   pub found-e4 : Entry.behaviour (entry_at t i) ≡ end_m_gtp4e → SoundE4 (entry_at t i)
   found-e4 b = sound-e4 (policies t) (entry_at t i) found-entry b
 
-pub found-rule : (limit : ℕ) (t a : List ℕ) (k : ℕ) → sound_within limit t ≡ true → match_rule t a ≡ At k → SoundRule (rule_at t k)
+pub found-rule : (limit : ℕ) (t a : List ℕ) (k : ℕ) → sound_within limit t ≡ true → match_rule t a ≡ Some k → SoundRule (rule_at t k)
 found-rule limit t a k s m = sound-rule (rule_at t k) ((sound_parts limit t s).rule k (matched_rule t a k m).below)

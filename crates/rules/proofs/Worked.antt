@@ -12,14 +12,13 @@ use Rattle.rules.specs.Srh.{srh}
 use Rattle.rules.specs.Gtpu.{udp, datagram_octets}
 use Rattle.rules.specs.Octets.{put16, splice}
 use Rattle.rules.specs.Args.{args_octets, args_at, with_args}
-use Rattle.rules.specs.Answer.{Outcome, Sent, Refused, verdict}
+use Rattle.rules.specs.Answer.{Outcome, Sent, Refused, verdict, Verdict}
 use Rattle.rules.specs.Datagram.{datagram, message_rows, g_pdu_rows}
 use Rattle.rules.specs.Carried.{carried_by}
 use Rattle.rules.specs.D4.{d4_sid, d4_source}
 use Rattle.rules.specs.Calls.{translate6, translate4}
 use Rattle.rules.specs.Trip.{Stop, v6, trip}
-use Rattle.rules.specs.declared.Verdict.{Verdict}
-use Rattle.rules.specs.declared.Verdict.TheVariants.{Pass, Refuse}
+use Rattle.std.specs.Prelude.{Ok, Err}
 use Rattle.rules.proofs.Computing.{computing}
 use Rattle.rules.proofs.Samples as Samples
 use Rattle.rules.proofs.Samples.{sid_of, gateway6, args_of, table, values4}
@@ -52,8 +51,8 @@ sent n = 0 ∷ 0 ∷ 0 ∷ 0 ∷ n ∷ []
 
 -- nothing where rows pass, else the number
 abbrev pub told : Verdict → List ℕ
-told Pass = []
-told (Refuse r) = r.number ∷ []
+told (Ok tt) = []
+told (Err r) = r.number ∷ []
 
 abbrev pub octets_of : Outcome → List ℕ
 octets_of (Sent x) = x

@@ -1,10 +1,9 @@
 -- The answer table: ordered rows, each with its tests, number and ICMP fields. The first row with a test that holds answers.
 use Rattle.std.specs.Prelude.{Bool, true, false, not, cond, ◌&&◌, ◌||◌, List, [], ◌∷◌, ◌++◌, ℕ, suc, ◌+◌, ◌*◌, eqb, leb, ltb, length}
+use Rattle.std.specs.Prelude.{Result, Ok, Err}
 use Rattle.rules.specs.Octets.{splice}
 use Rattle.rules.specs.Assigned.{time_exceeded, parameter_problem}
 use Rattle.rules.specs.declared.Refusal.{Refusal}
-use Rattle.rules.specs.declared.Verdict.{Verdict}
-use Rattle.rules.specs.declared.Verdict.TheVariants.{Pass, Refuse}
 
 pub record Row : Type 0 where
   pub tests : List Bool
@@ -81,15 +80,19 @@ abbrev pub applies : (number : ℕ) → List Row → Bool
 applies number [] = false
 applies number (r ∷ rs) = cond (eqb number r.refusal.number) (any r.tests) (applies number rs)
 
+-- What rows of the answer table say of a packet: that it passes, or a refusal.
+abbrev pub Verdict : Type 0
+Verdict = Result (Unit {0}) Refusal
+
 -- what rows in their order say
 unfoldable pub verdict : List Row → Verdict
-verdict [] = Pass
-verdict (r ∷ rs) = cond (any r.tests) (Refuse r.refusal) (verdict rs)
+verdict [] = Ok tt
+verdict (r ∷ rs) = cond (any r.tests) (Err r.refusal) (verdict rs)
 
 -- the first of two verdicts that refuses
 abbrev pub first : Verdict → Verdict → Verdict
-first Pass w = w
-first (Refuse r) w = Refuse r
+first (Ok tt) w = w
+first (Err r) w = Err r
 
 -- WHAT COMES OF A CALL
 
@@ -99,8 +102,8 @@ pub data Outcome : Type 0 where
 
 -- a verdict, and what comes where it passes
 abbrev pub after : Verdict → Outcome → Outcome
-after Pass o = o
-after (Refuse r) o = Refused r
+after (Ok tt) o = o
+after (Err r) o = Refused r
 
 -- an outcome, unless a row applies
 abbrev pub unless : List Row → Outcome → Outcome

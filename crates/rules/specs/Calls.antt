@@ -1,5 +1,5 @@
 -- The two calls: from packet octets, table octets and room to what is sent or a refusal.
-use Rattle.std.specs.Prelude.{Bool, true, false, not, cond, List, [], ◌∷◌, ◌++◌, ℕ, eqb}
+use Rattle.std.specs.Prelude.{Bool, true, false, not, cond, List, [], ◌∷◌, ◌++◌, ℕ, eqb, Option, Some, None}
 use Rattle.rules.specs.Assigned.{end, end_m_gtp6d, end_m_gtp6d_di, end_m_gtp6e}
 use Rattle.rules.specs.Table.{entry_at, rule_at, policy_at}
 use Rattle.rules.specs.Entry as Entry
@@ -18,19 +18,17 @@ use Rattle.rules.specs.D4.{decide_d4}
 use Rattle.rules.specs.Header4.{header4, malformed4, bad_header4}
 use Rattle.rules.specs.declared.Header.{Header}
 use Rattle.rules.specs.declared.Header4.{Header4}
-use Rattle.rules.specs.declared.Found.{Found}
-use Rattle.rules.specs.declared.Found.TheVariants.{At, Nothing}
 
 -- row 1: table not sound
 abbrev pub unsound_row : (t : List ℕ) → Row
 unsound_row t = row (not (sound t) ∷ []) 1
 
 -- row 4: no entry or rule matches
-abbrev pub nothing : Found → Bool
-nothing Nothing = true
-nothing (At i) = false
+abbrev pub nothing : Option ℕ → Bool
+nothing None = true
+nothing (Some i) = false
 
-abbrev pub unmatched_row : Found → Row
+abbrev pub unmatched_row : Option ℕ → Row
 unmatched_row found = row (nothing found ∷ []) 4
 
 -- an IPv6 packet at an entry that matches; the last behaviour that a sound table may name is E4
@@ -45,20 +43,20 @@ unfoldable pub at_entry : (t e p : List ℕ) → Outcome
 at_entry t e p = outcome (decide_entry t e p)
 
 -- rows from 4 on, with the record that is found; where none is, row 4 refuses and no packet is made
-abbrev pub with_found : (decide_at : ℕ → Decision) → Found → Decision
-with_found decide_at Nothing = record { rows = unmatched_row Nothing ∷ []; packet = [] }
-with_found decide_at (At i) = record { rows = unmatched_row (At i) ∷ (decide_at i).rows; packet = (decide_at i).packet }
+abbrev pub with_found : (decide_at : ℕ → Decision) → Option ℕ → Decision
+with_found decide_at None = record { rows = unmatched_row None ∷ []; packet = [] }
+with_found decide_at (Some i) = record { rows = unmatched_row (Some i) ∷ (decide_at i).rows; packet = (decide_at i).packet }
 
-unfoldable pub decide_found_entry : (t p : List ℕ) → Found → Decision
+unfoldable pub decide_found_entry : (t p : List ℕ) → Option ℕ → Decision
 decide_found_entry t p found = with_found (λ i. decide_entry t (entry_at t i) p) found
 
-unfoldable pub decide_found_rule : (t p : List ℕ) → Found → Decision
+unfoldable pub decide_found_rule : (t p : List ℕ) → Option ℕ → Decision
 decide_found_rule t p found = with_found (λ k. decide_d4 (rule_at t k) p) found
 
-unfoldable pub at_found_entry : (t p : List ℕ) → Found → Outcome
+unfoldable pub at_found_entry : (t p : List ℕ) → Option ℕ → Outcome
 at_found_entry t p found = outcome (decide_found_entry t p found)
 
-unfoldable pub at_found_rule : (t p : List ℕ) → Found → Outcome
+unfoldable pub at_found_rule : (t p : List ℕ) → Option ℕ → Outcome
 at_found_rule t p found = outcome (decide_found_rule t p found)
 
 -- rows 1 and 2; over IPv4 rows 1, 2 and 3

@@ -1,5 +1,5 @@
 -- Demand 3: what the papers assume of a trip, and what they promise. Near and far are its two gateways.
-use Rattle.std.specs.Prelude.{◌≡◌, true, List, [], ◌∷◌, ◌++◌, ℕ, ◌+◌, ◌≤◌, ◌<◌, length, drop}
+use Rattle.std.specs.Prelude.{◌≡◌, true, List, [], ◌∷◌, ◌++◌, ℕ, ◌+◌, ◌≤◌, ◌<◌, length, drop, Some}
 use Rattle.rules.specs.Octets.{Octets, splice}
 use Rattle.rules.specs.Assigned.{end, end_m_gtp6d, end_m_gtp6d_di, end_m_gtp6e, end_m_gtp4e, g_pdu}
 use Rattle.rules.specs.Table.{entry_at, rule_at, policy_at}
@@ -24,7 +24,6 @@ use Rattle.rules.specs.D4.{d4_packet, d4_sid}
 use Rattle.rules.specs.E4.{e4_packet}
 use Rattle.rules.specs.Written.{WrittenE6, WrittenE4}
 use Rattle.rules.specs.Trip.{v4, v6, Stop, call, trip, stops}
-use Rattle.rules.specs.declared.Found.TheVariants.{At}
 
 -- PREMISES
 
@@ -33,7 +32,7 @@ pub record AtEntry (s : Stop) (destination : List ℕ) (behaviour i : ℕ) : Typ
   pub call : s.version ≡ v6
   pub octets : Octets s.table
   pub sound : sound s.table ≡ true
-  pub matches : match_entry s.table destination ≡ At i
+  pub matches : match_entry s.table destination ≡ Some i
   pub kind : Entry.behaviour (entry_at s.table i) ≡ behaviour
 
 -- the IPv4 call at a stop with a sound table, where the longest match for a destination is rule k
@@ -41,7 +40,7 @@ pub record AtRule (s : Stop) (destination : List ℕ) (k : ℕ) : Type 0 where
   pub call : s.version ≡ v4
   pub octets : Octets s.table
   pub sound : sound s.table ≡ true
-  pub matches : match_rule s.table destination ≡ At k
+  pub matches : match_rule s.table destination ≡ Some k
 
 -- at each waypoint the longest match for the arriving destination is a waypoint entry
 abbrev pub AtWaypoints : List Stop → (destinations : List (List ℕ)) → Type 0

@@ -1,20 +1,18 @@
 -- Longest match among the entries, and among the rules, of a table.
-use Rattle.std.specs.Prelude.{Bool, cond, List, ℕ, zero, suc, ltb}
+use Rattle.std.specs.Prelude.{Bool, cond, List, ℕ, zero, suc, ltb, Option, Some, None}
 use Rattle.rules.specs.Prefix.{under}
 use Rattle.rules.specs.Table.{entries, rules, entry_at, rule_at}
 use Rattle.rules.specs.Entry as Entry
 use Rattle.rules.specs.Rule as Rule
-use Rattle.rules.specs.declared.Found.{Found}
-use Rattle.rules.specs.declared.Found.TheVariants.{At, Nothing}
 
 -- what is found so far, and i, which matches: i where it is longer
-abbrev pub longer : (bits : ℕ → ℕ) → Found → ℕ → Found
-longer bits Nothing i = At i
-longer bits (At j) i = cond (ltb (bits j) (bits i)) (At i) (At j)
+abbrev pub longer : (bits : ℕ → ℕ) → Option ℕ → ℕ → Option ℕ
+longer bits None i = Some i
+longer bits (Some j) i = cond (ltb (bits j) (bits i)) (Some i) (Some j)
 
 -- among the numbers below n that match, the one with the most bits
-unfoldable pub longest : (matches : ℕ → Bool) (bits : ℕ → ℕ) (n : ℕ) → Found
-longest matches bits zero = Nothing
+unfoldable pub longest : (matches : ℕ → Bool) (bits : ℕ → ℕ) (n : ℕ) → Option ℕ
+longest matches bits zero = None
 longest matches bits (suc i) = cond (matches i) (longer bits (longest matches bits i) i) (longest matches bits i)
 
 -- entry i matches an IPv6 address, and the bits of its prefix
@@ -32,8 +30,8 @@ abbrev pub rule_bits : (t : List ℕ) → ℕ → ℕ
 rule_bits t k = Rule.prefix_length (rule_at t k)
 
 -- the entry, and the rule, with the longest prefix that an address lies under
-unfoldable pub match_entry : (t address : List ℕ) → Found
+unfoldable pub match_entry : (t address : List ℕ) → Option ℕ
 match_entry t address = longest (entry_matches t address) (entry_bits t) (entries t)
 
-unfoldable pub match_rule : (t address : List ℕ) → Found
+unfoldable pub match_rule : (t address : List ℕ) → Option ℕ
 match_rule t address = longest (rule_matches t address) (rule_bits t) (rules t)

@@ -1,6 +1,7 @@
 -- What is refused, said a second time: for each answer number when it is given, through the readers of the layouts and in plain numbers.
 -- No row list, no view and no test is named here.
 use Rattle.std.specs.Prelude.{◌≡◌, ◌≢◌, Bool, false, cond, List, [], ◌∷◌, ℕ, ◌+◌, ◌-◌, ◌*◌, ◌^◌, ◌/◌, ◌%◌, ◌≤◌, ◌<◌, eqb, length, drop}
+use Rattle.std.specs.Prelude.{Some}
 use Rattle.rules.specs.Exactly.{Exactly}
 use Rattle.rules.specs.Octets.{octet, read16, number}
 use Rattle.rules.specs.Table.{entries, rules, entry_at, rule_at, policy_at}
@@ -14,7 +15,6 @@ use Rattle.rules.specs.Srh as Srh
 use Rattle.rules.specs.Ipv4 as Ipv4
 use Rattle.rules.specs.Gtpu as Gtpu
 use Rattle.rules.specs.AddsUp.{AddsUp}
-use Rattle.rules.specs.declared.Found.TheVariants.{At}
 
 -- THE UPPER LAYER OF AN IPV6 PACKET: behind the SRH where there is one, else behind the IPv6 header
 
@@ -264,11 +264,11 @@ pub record Given6 (p t : List ℕ) (room : ℕ) (applies : ℕ → Bool) : Type 
   pub row2 : Exactly (applies 2) (Malformed6 p)
   pub never : Never applies (3 ∷ [])
   pub row4 : Exactly (applies 4) (NoEntry p t)
-  pub matched : SoundTable t → (i : ℕ) → match_entry t (Ipv6.destination p) ≡ At i → GivenAtEntry t (entry_at t i) p room applies
+  pub matched : SoundTable t → (i : ℕ) → match_entry t (Ipv6.destination p) ≡ Some i → GivenAtEntry t (entry_at t i) p room applies
 
 pub record Given4 (p t : List ℕ) (room : ℕ) (applies : ℕ → Bool) : Type 0 where
   pub row1 : Exactly (applies 1) (SoundTable t → ⊥)
   pub row2 : Exactly (applies 2) (Malformed4 p)
   pub row3 : Exactly (applies 3) (BadIpv4 p)
   pub row4 : Exactly (applies 4) (NoRule p t)
-  pub matched : SoundTable t → (k : ℕ) → match_rule t (Ipv4.destination p) ≡ At k → GivenD4 (rule_at t k) p room applies
+  pub matched : SoundTable t → (k : ℕ) → match_rule t (Ipv4.destination p) ≡ Some k → GivenD4 (rule_at t k) p room applies

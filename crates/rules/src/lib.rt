@@ -7,13 +7,6 @@ ghost use Rattle.rules.specs.Answer.{plain, hop_limit_row, segments_left_row, up
 
 pub mod assigned; // assigned.rt: numbers that the standards assign
 
-// A record of a table, by its number, or none.
-#[derive(Clone, Copy)]
-pub enum Found {
-    At(usize),
-    Nothing,
-}
-
 // An answer number other than 0, with its ICMP fields.
 #[derive(Clone, Copy)]
 pub struct Refusal {
@@ -197,13 +190,6 @@ impl Refusal {
     {
         Refusal::plain(23)
     }
-}
-
-// What rows of the answer table say of a packet.
-#[derive(Clone, Copy)]
-pub enum Verdict {
-    Pass,
-    Refuse(Refusal),
 }
 
 // What the rows ask of an arriving IPv6 packet: its first header, the SRH behind it if there is one, and the upper layer behind these.

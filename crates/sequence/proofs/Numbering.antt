@@ -1,4 +1,5 @@
 -- A number is found exactly where no row applies and S is set.
+use Rattle.std.proofs.Common.{Ok, Err}
 use mathlib.Core.Path.{◌≡◌, refl}
 use mathlib.Core.Logic.{◌≢◌}
 use mathlib.Core.Bool.{Bool, true, false, cond, ◌&&◌}
@@ -7,10 +8,8 @@ use Prim.Native.Nat.{ℕ}
 use native.Mathlib.Omega.{arith}
 use borrow.Author.Tests.{eq-eqb, ne_eqb}
 use Rattle.rules.specs.Gtpu as Gtpu
-use Rattle.rules.specs.Answer.{Row, verdict}
+use Rattle.rules.specs.Answer.{Row, verdict, Verdict}
 use Rattle.rules.specs.Carried.{datagram_in6, datagram_in4}
-use Rattle.rules.specs.declared.Verdict.{Verdict}
-use Rattle.rules.specs.declared.Verdict.TheVariants.{Pass, Refuse}
 use Rattle.rules.proofs.Rows.{None, none_pass, pass_none}
 use Rattle.sequence.specs.Sequence.{g_pdu_rows6, g_pdu_rows4, passes, numbered, found_in}
 use Rattle.sequence.specs.Sequence.{sequence_unless, sequence6, sequence4, ByFlag}
@@ -24,10 +23,10 @@ module _ (rows : List Row) (u : List ℕ) where
   unfolding sequence_unless
   found_passed h = let (v, s) = go (verdict rows) (numbered u) (found_in u) h in (pass_none rows v, s)
     where
-      go : (v : Verdict) (b : Bool) (x : ℕ) → cond (passes v && b) x 0 ≢ 0 → (v ≡ Pass) × (b ≡ true)
-      go Pass true x k = (refl, refl)
-      go Pass false x k = absurd (k refl)
-      go (Refuse r) b x k = absurd (k refl)
+      go : (v : Verdict) (b : Bool) (x : ℕ) → cond (passes v && b) x 0 ≢ 0 → (v ≡ Ok tt) × (b ≡ true)
+      go (Ok tt) true x k = (refl, refl)
+      go (Ok tt) false x k = absurd (k refl)
+      go (Err r) b x k = absurd (k refl)
 
   -- without S nothing is found, whatever the rows
   unnumbered : Gtpu.sequence_flag u ≡ 0 → sequence_unless rows u ≡ 0
@@ -38,7 +37,7 @@ module _ (rows : List Row) (u : List ℕ) where
       go true = refl
       go false = refl
 
-  pub passed_flag : verdict rows ≡ Pass → ByFlag u (sequence_unless rows u)
+  pub passed_flag : verdict rows ≡ Ok tt → ByFlag u (sequence_unless rows u)
   passed_flag v = record { set = λ s. passed_found (pass_none rows v) (omega (arith, eq-eqb, s)); clear = unnumbered }
 
 module _ (p : List ℕ) where

@@ -1,8 +1,11 @@
 -- How code that tests rows one by one is proved: each `return` follows from the tests that led there.
+use Rattle.std.proofs.Common.{Err}
 use mathlib.Core.Path.{◌≡◌, refl, ap, ◌∙◌}
 use mathlib.Core.Bool.{Bool, true, false, not, cond, ◌&&◌}
 use mathlib.Core.List.{List, [], ◌∷◌, ◌++◌}
 use Prim.Native.Nat.{ℕ, ◌/◌, ◌%◌}
+use native.Mathlib.Omega.{arith}
+use Rattle.std.specs.Int.{from_be_bytes, w32}
 use lib.Dec.{eqb}
 use lib.ListN.{length, drop}
 use borrow.Author.Tests.{not-true, not-false}
@@ -18,7 +21,6 @@ use Rattle.rules.specs.declared.Header.{Header}
 use Rattle.rules.specs.declared.Header4.{Header4}
 use Rattle.rules.specs.declared.Datagram.{Datagram}
 use Rattle.rules.specs.declared.Refusal.{Refusal}
-use Rattle.rules.specs.declared.Verdict.TheVariants.{Refuse}
 use Rattle.rules.proofs.Judging.{is_true, is_false, only_true, only_false}
 use Rattle.sequence.specs.Sequence.{rows9_to11, g_pdu_rows6, g_pdu_rows4, passes, numbered, teid, found, found_in}
 use Rattle.sequence.specs.Sequence.{sequence_unless, sequence6, sequence4}
@@ -42,6 +44,11 @@ pub ruleset tested = (row-applies, row_passed, is_true, is_false, only_true, onl
 
 -- WHAT IS READ OF A PACKET
 
+-- the TEID's octets in the order of the packet
+teid_number : (t : List ℕ) → from_be_bytes w32 t ≡ number t 0 4
+unfolding number
+teid_number t = omega arith
+
 -- a datagram by its view
 module _ (u : List ℕ) (g : Datagram) (seen : g ≡ datagram u) where
   pub datagram_seen : (protocol z : ℕ) → z ≡ sequence_unless (rows8_to11 protocol g) u → z ≡ sequence_in protocol u
@@ -57,11 +64,11 @@ module _ (u : List ℕ) (g : Datagram) (seen : g ≡ datagram u) where
     unfolding sequence_unless verdict
     flag_clear e = rw (← flag_seen, not-true r e)
 
-    pub flag_set : (t n z : ℕ) → not r ≡ false → z ≡ found t n → t ≡ number g.teid 0 4 → n ≡ Gtpu.sequence_number u
+    pub flag_set : (t n z : ℕ) → not r ≡ false → z ≡ found t n → t ≡ from_be_bytes w32 g.teid → n ≡ Gtpu.sequence_number u
         → z ≡ sequence_unless [] u
     unfolding sequence_unless verdict datagram
     flag_set t n z e p q s =
-        let teid-seen : t ≡ teid u = q ∙ ap (λ (g : Datagram). number g.teid 0 4) seen in
+        let teid-seen : t ≡ teid u = q ∙ teid_number g.teid ∙ ap (λ (g : Datagram). number g.teid 0 4) seen in
         rw (← flag_seen, not-false r e) (p ∙ (λ i. found (teid-seen i) (s i)))
 
 pub ruleset tested8 = (datagram_seen, tested, flag_clear, flag_set)
@@ -72,8 +79,8 @@ refused_alike : (u : List ℕ) (bs : List Bool) (ρ ρ' : Refusal) (rs : List Ro
 unfolding sequence_unless verdict
 refused_alike u bs ρ ρ' rs = go (any bs)
   where
-    go : (b : Bool) → cond (passes (cond b (Refuse ρ) (verdict rs)) && numbered u) (found_in u) 0
-        ≡ cond (passes (cond b (Refuse ρ') (verdict rs)) && numbered u) (found_in u) 0
+    go : (b : Bool) → cond (passes (cond b (Err ρ) (verdict rs)) && numbered u) (found_in u) 0
+        ≡ cond (passes (cond b (Err ρ') (verdict rs)) && numbered u) (found_in u) 0
     go true = refl
     go false = refl
 

@@ -1,11 +1,12 @@
 -- TEID and sequence number of a packet as it arrives, for the report of lost packets: of a well-formed G-PDU with S, and of nothing else.
 -- Well-formed is what the rows say that ask no table, up to row 11, asked of every message, Echo Requests too: the extensions and the inner
 -- packet are not examined.
+use Rattle.std.specs.Prelude.{Ok, Err}
 use Rattle.std.specs.Prelude.{◌≡◌, Bool, true, false, cond, ◌&&◌, List, [], ◌∷◌, ◌++◌, ℕ, ◌+◌, ◌*◌, eqb}
 use Rattle.rules.specs.Octets.{number}
 use Rattle.rules.specs.Assigned.{g_pdu}
 use Rattle.rules.specs.Gtpu as Gtpu
-use Rattle.rules.specs.Answer.{Row, row, differs, verdict}
+use Rattle.rules.specs.Answer.{Row, row, differs, verdict, Verdict}
 use Rattle.rules.specs.Header.{header, malformed}
 use Rattle.rules.specs.Datagram.{datagram, message_rows}
 use Rattle.rules.specs.Carried.{datagram_in6, datagram_in4}
@@ -13,8 +14,6 @@ use Rattle.rules.specs.Gtp6D.{gtp6_rows}
 use Rattle.rules.specs.D4.{gtp4_rows}
 use Rattle.rules.specs.Header4.{header4, malformed4, bad_header4}
 use Rattle.rules.specs.declared.Datagram.{Datagram}
-use Rattle.rules.specs.declared.Verdict.{Verdict}
-use Rattle.rules.specs.declared.Verdict.TheVariants.{Pass, Refuse}
 
 -- WELL-FORMED
 
@@ -40,8 +39,8 @@ g_pdu_rows4 p =
 
 -- no row applies
 abbrev pub passes : Verdict → Bool
-passes Pass = true
-passes (Refuse r) = false
+passes (Ok tt) = true
+passes (Err r) = false
 
 -- WHAT IS FOUND
 

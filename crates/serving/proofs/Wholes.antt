@@ -1,9 +1,11 @@
 -- The burst as a whole: refused by row 19, with a table that is not sound, and served.
-use mathlib.Core.Path.{◌≡◌, sym, ap, ◌∙◌}
+use mathlib.Core.Path.{◌≡◌, refl, sym, ap, ◌∙◌}
 use mathlib.Core.Bool.{true, false}
-use mathlib.Core.List.{List, []}
-use Prim.Native.Nat.{ℕ}
-use lib.ListN.{length, replicate}
+use mathlib.Core.List.{List, [], ◌++◌}
+use Prim.Native.Nat.{ℕ, ◌≤◌}
+use native.Mathlib.Nat.{zero-add}
+use lib.ListN.{length, take, drop, replicate, length-replicate}
+use lib.Seq.{length-take-le}
 use Rattle.rules.specs.Octets.{splice}
 use Rattle.rules.specs.Sound.{sound}
 use Rattle.rules.specs.Answer.{plain, any, Outcome, Sent, Refused, overlay, packed, packed_fields}
@@ -24,6 +26,12 @@ pub packed_named : (ρ r : Refusal) (a : Answer) (w : ℕ) → r ≡ ρ → a �
 packed_named ρ r a w e f g =
     g ∙ ap (λ (a : Answer). packed_fields a.number a.icmpType a.icmpCode a.pointer a.size) f ∙ packed-answer (Refused r)
     ∙ ap (λ (r : Refusal). packed (Refused r)) e
+
+-- a first part of the places that was filled
+pub fill_splice : (places filled : List ℕ) (n answer : ℕ) → n ≤ length places → filled ≡ replicate (length (take n places)) answer
+    → filled ++ drop n places ≡ splice places 0 (replicate n answer)
+unfolding splice
+fill_splice places filled n answer h e = rw (e, length-take-le n places h, zero-add, length-replicate) refl
 
 module _ (v : Version) (ls p t out places : List ℕ) (answer : ℕ) where
   pub whole-refused : any (unfit ls p (length places)) ≡ true → answer ≡ packed (Refused (plain 19)) → Whole v ls p t out places answer out

@@ -1,15 +1,10 @@
 -- What the functions of a burst ask for, and what they leave behind.
-use Rattle.std.specs.Prelude.{◌≡◌, Bool, true, false, List, ℕ, ◌/◌, ◌<◌, length}
+use Rattle.std.specs.Prelude.{◌≡◌, List, ℕ, ◌/◌, ◌<◌, length}
 use Rattle.rules.specs.Octets.{splice}
 use Rattle.rules.specs.Answer.{Outcome, overlay, packed}
-use Rattle.rules.specs.Trip.{Version, v4, v6}
+use Rattle.rules.specs.Trip.{Version}
 use Rattle.copying.specs.Run.{Run}
 use Rattle.burst.specs.Burst.{cut, result, outcomes, results, answers, burst, answered}
-
--- which of the two calls
-abbrev pub version_of : (ipv6 : Bool) → Version
-version_of true = v6
-version_of false = v4
 
 -- One packet: its outcome was answered in one number, from which the length can be read, and its result was put into the buffer from
 -- octet `used` on.

@@ -9,9 +9,9 @@ ghost use Rattle.rules.specs.Table.{addresses_at};
 ghost use Rattle.rules.specs.Srh.{segments};
 ghost use Rattle.rules.specs.Waypoint.{routing, step, underway, step_rows};
 ghost use Rattle.copying.specs.Run.{Run};
-ghost use Rattle.srh.specs.State.{word_octets, address_octets, state, NextOrRefused};
+ghost use Rattle.srh.specs.State.{address_octets, state, NextOrRefused};
 
-// An address as two words, since an enum holds no array. A word's lowest octet stands first, so that a word is one load and one store.
+// An address as two words. A word's lowest octet stands first, so that it is one load and one store.
 #[derive(Clone, Copy)]
 pub struct Address {
     pub first: u64,
@@ -26,21 +26,6 @@ pub struct Routing {
     pub destination: Address,
 }
 
-// What a step hands back: the next state, or a refusal.
-#[derive(Clone, Copy)]
-pub enum Stepped {
-    Next(Routing),
-    Refused(rules::Refusal),
-}
-
-// Eight octets as a word.
-fn word(a: u8, b: u8, c: u8, d: u8, e: u8, f: u8, g: u8, h: u8) -> u64
-    ensures { word_octets 8 result ≡ a ∷ b ∷ c ∷ d ∷ e ∷ f ∷ g ∷ h ∷ [] }
-{
-    let high = (e as u64) + 256 * ((f as u64) + 256 * ((g as u64) + 256 * (h as u64)));
-    (a as u64) + 256 * ((b as u64) + 256 * ((c as u64) + 256 * ((d as u64) + 256 * high)))
-}
-
 impl Address {
     // 16 octets that are lent.
     fn lent(a: &[u8]) -> Address
@@ -48,8 +33,8 @@ impl Address {
         ensures { address_octets result ≡ a.now }
     {
         Address {
-            first: word(a[0], a[1], a[2], a[3], a[4], a[5], a[6], a[7]),
-            second: word(a[8], a[9], a[10], a[11], a[12], a[13], a[14], a[15]),
+            first: u64::from_le_bytes(octets::array(a, 0)),
+            second: u64::from_le_bytes(octets::array(a, 8)),
         }
     }
 
@@ -63,8 +48,8 @@ impl Address {
     pub fn at(s: &[u8], at: usize) -> Address
         ensures { address_octets result ≡ window s.now at 16 }
     {
-        if octets::saturating_sub(s.len(), at) < 16 {
-            return Address::of(octets::window16(s, at));
+        if s.len().saturating_sub(at) < 16 {
+            return Address::of(octets::window::<16>(s, at));
         }
         Address::lent(octets::sixteen(s, at))
     }
@@ -72,33 +57,13 @@ impl Address {
     pub fn octets(self) -> [u8; 16]
         ensures { result ≡ address_octets self }
     {
-        let a = self.first;
-        let b = self.second;
+        let a = self.first.to_le_bytes();
+        let b = self.second.to_le_bytes();
         [
-            (a % 256) as u8,
-            (a / 0x100 % 256) as u8,
-            (a / 0x10000 % 256) as u8,
-            (a / 0x1000000 % 256) as u8,
-            (a / 0x100000000 % 256) as u8,
-            (a / 0x10000000000 % 256) as u8,
-            (a / 0x1000000000000 % 256) as u8,
-            (a / 0x100000000000000 % 256) as u8,
-            (b % 256) as u8,
-            (b / 0x100 % 256) as u8,
-            (b / 0x10000 % 256) as u8,
-            (b / 0x1000000 % 256) as u8,
-            (b / 0x100000000 % 256) as u8,
-            (b / 0x10000000000 % 256) as u8,
-            (b / 0x1000000000000 % 256) as u8,
-            (b / 0x100000000000000 % 256) as u8,
+            a[0], a[1], a[2], a[3], a[4], a[5], a[6], a[7], b[0], b[1], b[2], b[3], b[4], b[5],
+            b[6], b[7],
         ]
     }
-}
-
-fn one_less(x: u8) -> u8
-    ensures { result ≡ x - 1 }
-{
-    if x == 0 { 0 } else { x - 1 }
 }
 
 fn is_underway(left: u8, h: rules::Header) -> bool
@@ -134,7 +99,7 @@ impl Routing {
     pub fn of(front: [u8; 48]) -> Routing
         ensures { state result ≡ routing front }
     {
-        let destination = Address::of(octets::window16(&front, 24));
+        let destination = Address::of(octets::window::<16>(&front, 24));
         Routing {
             segmentsLeft: front[43],
             hopLimit: front[7],
@@ -143,22 +108,22 @@ impl Routing {
     }
 
     // One segment on, or rows 6, 7 and 8. `segment` is the one that Segments Left less 1 names.
-    pub fn step(self, h: rules::Header, segment: Address) -> Stepped
+    pub fn step(self, h: rules::Header, segment: Address) -> Result<Routing, rules::Refusal>
         ensures { NextOrRefused result (verdict (step_rows self.segmentsLeft self.hopLimit h))
             (step (state self) (address_octets segment)) }
     {
         if hops_spent(self.segmentsLeft, self.hopLimit, h) {
-            return Stepped::Refused(rules::Refusal::hop_limit());
+            return Err(rules::Refusal::hop_limit());
         }
         if bad_left(self.segmentsLeft, h) {
-            return Stepped::Refused(rules::Refusal::segments_left());
+            return Err(rules::Refusal::segments_left());
         }
         if at_rest(self.segmentsLeft, h) {
-            return Stepped::Refused(rules::Refusal::upper_layer(h.upperAt));
+            return Err(rules::Refusal::upper_layer(h.upperAt));
         }
-        Stepped::Next(Routing {
-            segmentsLeft: one_less(self.segmentsLeft),
-            hopLimit: one_less(self.hopLimit),
+        Ok(Routing {
+            segmentsLeft: self.segmentsLeft.saturating_sub(1),
+            hopLimit: self.hopLimit.saturating_sub(1),
             destination: segment,
         })
     }
@@ -169,10 +134,8 @@ pub fn put_reversed(out: &mut [u8], at: usize, s: &[u8], from: usize, n: usize)
     requires { (from + 16 * n ≤ length s.now) × (at + 16 * n ≤ length out.old) }
     ensures { Run out.old at (16 * n) (segments (addresses_at s.now from n) []) out.new }
 {
-    let mut k = 0;
-    while k < n {
-        let address = octets::sixteen(s, from + 16 * k);
-        copying::copy_to(out, at + 16 * (n - k - 1), address);
-        k += 1;
+    for k in 0..n {
+        let address: [u8; 16] = octets::array(s, from + 16 * k);
+        copying::copy_to(out, at + 16 * (n - k - 1), &address);
     }
 }

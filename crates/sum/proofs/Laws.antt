@@ -15,14 +15,14 @@ drop_one : (s : List ℕ) (i : ℕ) → i < length s → drop i s ≡ octet s i 
 drop_one s i h = rw (add-one, drop-cons s i 0)
 
 -- the word in front of what is left; j and k are the places behind its octets
-drop_word : (s : List ℕ) (i j k : ℕ) → j ≡ i + 1 → k ≡ j + 1 → k ≤ length s
+pub drop_word : (s : List ℕ) (i j k : ℕ) → j ≡ i + 1 → k ≡ j + 1 → k ≤ length s
     → word_sum (drop i s) ≡ octet s i * 256 + octet s j + word_sum (drop k s)
 unfolding word_sum
 drop_word s i j k e f h =
     rw (f, e, drop_one s i (omega arith), drop_one s (i + 1) (omega arith)) refl
 
 -- nothing is left
-drop_all : (s : List ℕ) → word_sum (drop (length s) s) ≡ 0
+pub drop_all : (s : List ℕ) → word_sum (drop (length s) s) ≡ 0
 unfolding word_sum
 drop_all s = rw (drop_of_length-le s {i = length s} (omega arith)) refl
 

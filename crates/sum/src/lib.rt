@@ -10,7 +10,7 @@ ghost use Rattle.sum.specs.Adding.{Four, Before};
 fn word(x: u8, y: u8) -> u64
     ensures { (result ≡ x + y * 256) × (result < 65536) }
 {
-    (x as u64) + (y as u64) * 256
+    u64::from(u16::from_le_bytes([x, y]))
 }
 
 // Two words side by side. It compiles to one load.
@@ -18,7 +18,7 @@ fn four(s: &[u8], at: usize) -> u64
     requires { at + 4 ≤ length s.now }
     ensures { Four s.now at result }
 {
-    word(s[at], s[at + 1]) + word(s[at + 2], s[at + 3]) * 65536
+    u64::from(u32::from_le_bytes(octets::array(s, at)))
 }
 
 // The octets up to the last multiple of 16. Four sums, so that a turn compiles to one load and the additions of two vectors.
@@ -33,10 +33,10 @@ fn sixteens(s: &[u8]) -> u64
     let mut d: u64 = 0;
     let mut i = 0;
     while i < end {
-        a = a + four(s, i);
-        b = b + four(s, i + 4);
-        c = c + four(s, i + 8);
-        d = d + four(s, i + 12);
+        a += four(s, i);
+        b += four(s, i + 4);
+        c += four(s, i + 8);
+        d += four(s, i + 12);
         i += 16;
     }
     a + b + c + d

@@ -9,7 +9,7 @@ use lib.ListN.{length}
 use Rattle.rules.specs.Table.{entries, rules, policies, rules_at, policies_at, table_size}
 use Rattle.rules.specs.Match.{match_entry, match_rule}
 use Rattle.rules.specs.Sound.{entry_limit, header_sound, sound}
-use Rattle.rules.specs.declared.Found.TheVariants.{At}
+use Rattle.std.specs.Prelude.{Some}
 use Rattle.rules.proofs.Conditions.{conjunct, sound_parts}
 use Rattle.rules.proofs.Longest.{matched_entry, matched_rule}
 
@@ -39,8 +39,8 @@ module _ (t : List ℕ) (s : sound t ≡ true) where
   policy_within j l = omega (arith, sound-size)
 
   -- and of what is found
-  pub found-entry_within : (a : List ℕ) (i : ℕ) → match_entry t a ≡ At i → 16 + 64 * (i + 1) ≤ length t
+  pub found-entry_within : (a : List ℕ) (i : ℕ) → match_entry t a ≡ Some i → 16 + 64 * (i + 1) ≤ length t
   found-entry_within a i m = entry_within i (matched_entry t a i m).below
 
-  pub found-rule_within : (a : List ℕ) (k : ℕ) → match_rule t a ≡ At k → rules_at t + 160 * (k + 1) ≤ length t
+  pub found-rule_within : (a : List ℕ) (k : ℕ) → match_rule t a ≡ Some k → rules_at t + 160 * (k + 1) ≤ length t
   found-rule_within a k m = rule_within k (matched_rule t a k m).below

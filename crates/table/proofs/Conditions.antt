@@ -29,7 +29,7 @@ module _ (f : ℕ → Bool) where
   pub all_done : (i n : ℕ) → all f i ≡ true → i ≡ n → all f n ≡ true
   all_done i n a e = rw (← e) a
 
-  all_true : (n : ℕ) → ((k : ℕ) → k < n → f k ≡ true) → all f n ≡ true
+  pub all_true : (n : ℕ) → ((k : ℕ) → k < n → f k ≡ true) → all f n ≡ true
   unfolding all
   all_true zero h = refl
   all_true (suc n) h = rw (all_true n (λ k l. h k (omega arith)), h n (omega arith)) refl

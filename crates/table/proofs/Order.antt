@@ -1,15 +1,16 @@
 -- Laws of the order of prefixes: when two that are read in two words are the same, which stands first, and records in order.
-use mathlib.Core.Path.{◌≡◌, refl, sym, ◌∙◌}
+use mathlib.Core.Path.{◌≡◌, refl, subst, ◌∙◌}
 use mathlib.Core.Bool.{Bool, true, false, ◌&&◌}
 use mathlib.Core.List.{List}
-use Prim.Native.Nat.{ℕ, ◌+◌, ◌-◌, ◌*◌, ◌^◌, ◌≤◌, ◌<◌}
-use native.Mathlib.Nat.{le_refl}
+use Prim.Native.Nat.{ℕ, zero, suc, ◌+◌, ◌-◌, ◌*◌, ◌^◌, ◌≤◌, ◌<◌}
+use native.Mathlib.Numerals.{add-one}
 use native.Mathlib.Omega.{arith}
-use native.Mathlib.Decide.{ℕ_discrete, dec_lt}
-use borrow.Author.Count.{below_more}
-use borrow.Author.Tests.{eq-eqb, ne_eqb, eqb-true, lt-ltb, le-ltb}
-use lib.Arith.{digits_lt}
+use native.Mathlib.Decide.{ℕ_discrete}
+use borrow.Author.Tests.{eq-eqb, ne_eqb, eqb-true}
 use lib.Dec.{eqb, ltb}
+use Rattle.std.specs.Prelude.{Some}
+use Rattle.std.specs.Ordering.{nat_cmp, partial_lt, partial_ordering_then}
+use Rattle.std.proofs.lemmas.Bool.Decides.{nat_tests}
 use Rattle.rules.specs.Octets.{Octets, number}
 use Rattle.rules.specs.Table.{entry_at, rule_at}
 use Rattle.rules.specs.Entry.{prefix, prefix_length}
@@ -17,9 +18,9 @@ use Rattle.rules.specs.Rule as Rule
 use Rattle.rules.specs.Sound.{same_entry_prefix, same_rule_prefix, distinct}
 use Rattle.rules.proofs.Conditions.{and_left, and_right}
 use Rattle.rules.proofs.Windows.{octets-window}
-use Rattle.numbers.proofs.Words.{number_split, number_small}
+use Rattle.numbers.proofs.Words.{number_split}
 use Rattle.prefix.proofs.Prefixes.{eqb_iff}
-use Rattle.table.specs.Keys.{entry_key, rule_key}
+use Rattle.table.specs.Keys.{key_of, entry_key, rule_key}
 use Rattle.table.proofs.Conditions.{distinct_none, distinct_more}
 
 module _ (p q : List ℕ) (hp : number p 8 8 < 2 ^ 64) (hq : number q 8 8 < 2 ^ 64) where
@@ -39,73 +40,40 @@ module _ (p q : List ℕ) (hp : number p 8 8 < 2 ^ 64) (hq : number q 8 8 < 2 ^ 
           (λ r. omega (arith, words-p, words-q)))
       pick (no d) = rw (ne_eqb _ _ d) (ne_eqb (number p 0 16) (number q 0 16) (λ r. d (omega (arith, words-p, words-q))))
 
-ltb_add : (c x y : ℕ) → ltb (c + x) (c + y) ≡ ltb x y
-ltb_add c x y = pick (dec_lt x y)
-  where
-    pick : Dec (x < y) → ltb (c + x) (c + y) ≡ ltb x y
-    pick (yes h) = lt-ltb (c + x) (c + y) (omega arith) ∙ sym (lt-ltb x y h)
-    pick (no h) = le-ltb (c + x) (c + y) (omega arith) ∙ sym (le-ltb x y (omega arith))
+-- a prefix's two words and its length, as code compares them
+abbrev pub earlier : (x y : ℕ × ℕ × ℕ) → Bool
+earlier =
+    partial_lt (λ x y. partial_ordering_then (partial_ordering_then (Some (nat_cmp x.0 y.0)) (Some (nat_cmp x.1 y.1)))
+    (Some (nat_cmp x.2 y.2)))
 
--- two numbers that have a high and a low part are in the order of the high parts, and where those are the same in that of the low parts
-module _ (b h g l k : ℕ) (hl : l < b) (hk : k < b) where
-  pub ltb_high : (h ≡ g → ⊥) → ltb h g ≡ ltb (h * b + l) (g * b + k)
-  ltb_high d = pick (dec_lt h g)
-    where
-      pick : Dec (h < g) → ltb h g ≡ ltb (h * b + l) (g * b + k)
-      pick (yes p) = lt-ltb h g p ∙ sym (lt-ltb (h * b + l) (g * b + k) (omega (arith, digits_lt {q = h} {m = g} {r = l} {c = b} p hl)))
-      pick (no p) =
-          let q : g < h = omega arith in
-          le-ltb h g (omega arith) ∙ sym (le-ltb (h * b + l) (g * b + k) (omega (arith, digits_lt {q = g} {m = h} {r = k} {c = b} q hk)))
+earlier-number : (h l b g k c : ℕ) → l < 2 ^ 64 → k < 2 ^ 64 → b < 256 → c < 256
+    → earlier (h, l, b) (g, k, c) ≡ ltb ((h * 2 ^ 64 + l) * 256 + b) ((g * 2 ^ 64 + k) * 256 + c)
+earlier-number h l b g k c hl hk hb hc = grind (arith, nat_tests)
 
-  pub ltb_low : h ≡ g → ltb l k ≡ ltb (h * b + l) (g * b + k)
-  ltb_low e = rw e (sym (ltb_add (g * b) l k))
+key-words : (e : List ℕ) {p : List ℕ} {h l : ℕ} → p ≡ prefix e → h ≡ number p 0 8 → l ≡ number p 8 8
+    → key_of e ≡ (h * 2 ^ 64 + l) * 256 + prefix_length e
+key-words e s a b = rw (a, b, s, number_split (prefix e) 0 8 8)
 
--- the order of two prefixes with their lengths b and c: by the first words, then by the second, then by the lengths
-module _ (p q : List ℕ) (b c : ℕ) (hp : number p 8 8 < 2 ^ 64) (hq : number q 8 8 < 2 ^ 64) (hb : b < 256) (hc : c < 256) where
-  keys_apart : (number p 0 16 ≡ number q 0 16 → ⊥)
-      → ltb (number p 0 16) (number q 0 16) ≡ ltb (number p 0 16 * 256 + b) (number q 0 16 * 256 + c)
-  keys_apart d = ltb_high 256 (number p 0 16) (number q 0 16) b c hb hc d
+-- the order of two entries
+pub entry_earlier : (t : List ℕ) → Octets t → (i j : ℕ) {e f p q : List ℕ} {h l g k : ℕ} {r : Bool} → e ≡ entry_at t i → f ≡ entry_at t j
+    → p ≡ prefix e → q ≡ prefix f → h ≡ number p 0 8 → l ≡ number p 8 8 → g ≡ number q 0 8 → k ≡ number q 8 8
+    → l < 2 ^ 64 → k < 2 ^ 64 → r ≡ earlier (h, l, prefix_length e) (g, k, prefix_length f) → r ≡ ltb (entry_key t i) (entry_key t j)
+unfolding entry_at
+entry_earlier t o i j {e} {f} {h = h} {l = l} {g = g} {k = k} es fs ps qs a b c d hl hk r =
+    let eo : prefix_length e < 256 = rw es (octets-window t (16 + 64 * i) 64 o 1) in
+    let fo : prefix_length f < 256 = rw fs (octets-window t (16 + 64 * j) 64 o 1) in
+    rw (← es, ← fs, key-words e ps a b, key-words f qs c d)
+    (r ∙ earlier-number h l (prefix_length e) g k (prefix_length f) hl hk eo fo)
 
-  pub by_first : (number p 0 8 ≡ number q 0 8 → ⊥)
-      → ltb (number p 0 8) (number q 0 8) ≡ ltb (number p 0 16 * 256 + b) (number q 0 16 * 256 + c)
-  by_first d =
-      ltb_high (2 ^ 64) (number p 0 8) (number q 0 8) (number p 8 8) (number q 8 8) hp hq d
-      ∙ rw (← words-p p q hp hq, ← words-q p q hp hq) (keys_apart (λ e. d (omega (arith, words-p p q hp hq, words-q p q hp hq))))
+-- two rules whose keys are the same have the same prefix with the same length
+pub key-same : (n m b c : ℕ) → b < 256 → c < 256 → eqb (n * 256 + b) (m * 256 + c) ≡ eqb b c && eqb n m
+key-same n m b c hb hc = grind (arith, nat_tests)
 
-  pub by_second : number p 0 8 ≡ number q 0 8 → (number p 8 8 ≡ number q 8 8 → ⊥)
-      → ltb (number p 8 8) (number q 8 8) ≡ ltb (number p 0 16 * 256 + b) (number q 0 16 * 256 + c)
-  by_second e d =
-      ltb_low (2 ^ 64) (number p 0 8) (number q 0 8) (number p 8 8) (number q 8 8) hp hq e
-      ∙ rw (← words-p p q hp hq, ← words-q p q hp hq) (keys_apart (λ f. d (omega (arith, words-p p q hp hq, words-q p q hp hq))))
-
-  pub by_length : number p 0 8 ≡ number q 0 8 → number p 8 8 ≡ number q 8 8
-      → ltb b c ≡ ltb (number p 0 16 * 256 + b) (number q 0 16 * 256 + c)
-  by_length e f = ltb_low 256 (number p 0 16) (number q 0 16) b c hb hc (omega (arith, words-p p q hp hq, words-q p q hp hq))
-
--- the same of two entries
-module _ (t : List ℕ) (o : Octets t) (i j : ℕ) where
-  entry-octets : (k : ℕ) → Octets (entry_at t k)
-  unfolding entry_at
-  entry-octets k = octets-window t (16 + 64 * k) 64 o
-
-  small : (k : ℕ) → number (prefix (entry_at t k)) 8 8 < 2 ^ 64
-  small k = number_small (prefix (entry_at t k)) (octets-window (entry_at t k) 16 16 (entry-octets k)) 8 8
-
-  pub entry_first : (number (prefix (entry_at t i)) 0 8 ≡ number (prefix (entry_at t j)) 0 8 → ⊥)
-      → ltb (number (prefix (entry_at t i)) 0 8) (number (prefix (entry_at t j)) 0 8) ≡ ltb (entry_key t i) (entry_key t j)
-  entry_first d = by_first (prefix (entry_at t i)) (prefix (entry_at t j)) _ _ (small i) (small j) (entry-octets i 1) (entry-octets j 1) d
-
-  pub entry-second : number (prefix (entry_at t i)) 0 8 ≡ number (prefix (entry_at t j)) 0 8
-      → (number (prefix (entry_at t i)) 8 8 ≡ number (prefix (entry_at t j)) 8 8 → ⊥)
-      → ltb (number (prefix (entry_at t i)) 8 8) (number (prefix (entry_at t j)) 8 8) ≡ ltb (entry_key t i) (entry_key t j)
-  entry-second e d = by_second (prefix (entry_at t i)) (prefix (entry_at t j)) _ _ (small i) (small j) (entry-octets i 1) (entry-octets j 1)
-      e d
-
-  pub entry_length : number (prefix (entry_at t i)) 0 8 ≡ number (prefix (entry_at t j)) 0 8
-      → number (prefix (entry_at t i)) 8 8 ≡ number (prefix (entry_at t j)) 8 8
-      → ltb (prefix_length (entry_at t i)) (prefix_length (entry_at t j)) ≡ ltb (entry_key t i) (entry_key t j)
-  entry_length e f = by_length (prefix (entry_at t i)) (prefix (entry_at t j)) _ _ (small i) (small j) (entry-octets i 1) (entry-octets j 1)
-      e f
+pub rule_same : (t : List ℕ) → Octets t → (i j : ℕ) {k l : ℕ} → k ≡ rule_key t i → l ≡ rule_key t j → eqb k l ≡ same_rule_prefix t i j
+unfolding rule_at same_rule_prefix
+rule_same t o i j a b =
+    rw (a, b) (key-same _ _ (Rule.prefix_length (rule_at t i)) (Rule.prefix_length (rule_at t j))
+    (octets-window t _ 160 o 0) (octets-window t _ 160 o 0))
 
 -- entries with the same prefix and length have the same key
 same_key : (t : List ℕ) (i j : ℕ) → same_entry_prefix t i j ≡ true → entry_key t i ≡ entry_key t j
@@ -143,21 +111,22 @@ other-rule_key t i j l = pick (same_rule_prefix t i j) refl
 
 -- RECORDS IN ORDER
 
--- the keys of the first i records ascend: none is past that of the last, and no two records are the same
-pub record Ascends (key : ℕ → ℕ) (same : ℕ → ℕ → Bool) (i : ℕ) : Type 0 where
-  pub last : (k : ℕ) → k < i → key k ≤ key (i - 1)
-  pub apart : distinct same i ≡ true
-
 module _ (key : ℕ → ℕ) (same : ℕ → ℕ → Bool) (other : (i j : ℕ) → key i < key j → same i j ≡ false) where
-  pub ascends_one : Ascends key same 1
-  ascends_one = record {
-    last = λ k l. let e : k ≡ 0 = omega arith in rw e (le_refl (key 0));
-    apart = distinct_more same 0 (distinct_none same) (λ k l. absurd (omega arith));
-  }
+  -- where each key is past that of the record before it, it is past those of all before it
+  past : (n : ℕ) → ((i : ℕ) → 1 ≤ i → i < n → key (i - 1) < key i) → (j k : ℕ) → j < k → k < n → key j < key k
+  past n h j zero l m = absurd (omega arith)
+  past n h j (suc k) l m =
+      let e : suc k - 1 ≡ k = omega arith in
+      pick (λ d. past n h j k d (omega arith)) (subst (λ i. key i < key (suc k)) e (h (suc k) (omega arith) m)) (ℕ_discrete j k)
+    where
+      pick : (j < k → key j < key k) → key k < key (suc k) → Dec (j ≡ k) → key j < key (suc k)
+      pick front e (yes q) = rw q e
+      pick front e (no d) = omega (arith, front (omega arith))
 
-  pub ascends_more : (i : ℕ) → 1 ≤ i → Ascends key same i → key (i - 1) < key i → Ascends key same (i + 1)
-  ascends_more i p a h =
-      let e : i + 1 - 1 ≡ i = omega arith in record {
-        last = rw e (below_more (λ j. key j ≤ key i) i (λ j l. omega (arith, a.last j l)) (le_refl (key i)));
-        apart = distinct_more same i a.apart (λ j l. other j i (omega (arith, a.last j l)));
-      }
+  -- so no two records are the same
+  pub distinct_ascending : (n : ℕ) → ((i : ℕ) → 1 ≤ i → i < n → key (i - 1) < key i) → distinct same n ≡ true
+  distinct_ascending n h = up_to n (omega arith)
+    where
+      up_to : (m : ℕ) → m ≤ n → distinct same m ≡ true
+      up_to zero l = distinct_none same
+      up_to (suc m) l = rw (← add-one) (distinct_more same m (up_to m (omega arith)) (λ k q. other k m (past n h k m q l)))

@@ -1,12 +1,13 @@
 // Whether a prefix with its length occurs twice, and the first entry, or rule, whose prefix with its length an earlier one has.
-ghost use Rattle.std.specs.Prelude.{◌≡◌, true, not, ◌+◌, ◌*◌, ◌≤◌, ◌<◌, ltb, length};
+ghost use Rattle.std.specs.Prelude.{◌≡◌, ℕ, true, ◌+◌, ◌-◌, ◌*◌, ◌≤◌, ◌<◌, ltb, length};
 ghost use Rattle.rules.specs.Table.{rules, rules_at, policies_at};
-ghost use Rattle.rules.specs.Sound.{all, same_entry_prefix, same_rule_prefix, distinct};
+ghost use Rattle.rules.specs.Sound.{same_entry_prefix, same_rule_prefix, distinct};
 ghost use Rattle.rules.specs.Fault.{entry_record, entry_repeated, told, first_fault, entry_prefixes_fault, rule_prefixes_fault};
-ghost use Rattle.table.specs.Keys.{entry_key, rule_key_of};
+ghost use Rattle.table.specs.Keys.{entry_key, rule_key, rule_key_of};
+ghost use Rattle.table.specs.Records.{nonzero, Repeated};
 
 use crate::faults;
-use records::{entry, rule};
+use records::{Rule, entry, rule};
 
 // Their conditions' numbers.
 const ENTRY_REPEATED: u8 = 14;
@@ -35,70 +36,55 @@ fn precedes(table: &[u8], i: usize, j: usize) -> bool
     let f = records::entry_at(table, j);
     let p = entry::prefix_of(e);
     let q = entry::prefix_of(f);
-    let p0 = numbers::eight(p, 0);
-    let q0 = numbers::eight(q, 0);
-    if p0 != q0 {
-        return p0 < q0;
-    }
-    let p8 = numbers::eight(p, 8);
-    let q8 = numbers::eight(q, 8);
-    if p8 != q8 {
-        return p8 < q8;
-    }
-    e[entry::PREFIX_LENGTH] < f[entry::PREFIX_LENGTH]
+    (
+        numbers::eight(p, 0),
+        numbers::eight(p, 8),
+        e[entry::PREFIX_LENGTH],
+    ) < (
+        numbers::eight(q, 0),
+        numbers::eight(q, 8),
+        f[entry::PREFIX_LENGTH],
+    )
 }
 
-// The first n entries stand in order, so that no prefix with its length occurs twice among them.
-fn ascending(table: &[u8], n: usize) -> bool
-    requires { 16 + 64 * n ≤ length table.now }
-    ensures { result ≡ true → distinct (same_entry_prefix table.now) n ≡ true }
+// Each number below n but the first is preceded by the one before it.
+fn ascending<P: Fn(usize, usize) -> bool>(n: usize, precedes: P) -> bool
+    requires { (i : ℕ) → 1 ≤ i → i < n → P.pre precedes (i - 1) i }
+    ensures { result ≡ true → (i : ℕ) → 1 ≤ i → i < n → P.post precedes (i - 1) i true }
 {
-    if n == 0 {
-        return true;
-    }
-    let mut i = 1;
-    while i < n {
-        if !precedes(table, i - 1, i) {
-            return false;
-        }
-        i += 1;
-    }
-    true
+    (1..n).all(|i| precedes(i - 1, i))
 }
 
-// No entry before j has the prefix of entry j with its length.
-fn entry_fresh(table: &[u8], j: usize) -> bool
-    requires { 16 + 64 * (j + 1) ≤ length table.now }
-    ensures { result ≡ all (λ i. not (same_entry_prefix table.now i j)) j }
+// The first of the records below n that is the same as one before it: each pair is looked at.
+fn repeated<S: Fn(usize, usize) -> bool>(kind: u8, n: usize, condition: u8, same: S) -> Option<u64>
+    requires { (n < 65536) × (1 ≤ condition) × ((i j : ℕ) → i < j → j < n → S.pre same i j) }
+    ensures { Repeated (S.post same) kind n condition result }
 {
-    let mut i = 0;
-    while i < j {
-        if same_entry_prefix(table, i, j) {
-            return false;
+    for j in 0..n {
+        for i in 0..j {
+            if same(i, j) {
+                return Some(faults::told(kind, j, condition));
+            }
         }
-        i += 1;
     }
-    true
+    None
 }
 
-// Each pair of the first n entries is looked at.
-fn entry_pairs_fault(table: &[u8], n: usize) -> u64
+fn entry_pairs_fault(table: &[u8], n: usize) -> Option<u64>
     requires { (16 + 64 * n ≤ length table.now) × (n < 65536) }
-    ensures { result ≡ first_fault (λ j. told entry_record j (entry_repeated table.now j)) n }
+    ensures { result ≡ nonzero (first_fault (λ j. told entry_record j (entry_repeated table.now j)) n) }
 {
-    let mut j = 0;
-    while j < n {
-        if !entry_fresh(table, j) {
-            return faults::told(faults::ENTRY, j, ENTRY_REPEATED);
-        }
-        j += 1;
-    }
-    0
+    repeated(
+        faults::ENTRY,
+        n,
+        ENTRY_REPEATED,
+        |i, j| same_entry_prefix(table, i, j),
+    )
 }
 
-pub fn entry_prefixes_fault(table: &[u8]) -> u64
+pub fn entry_prefixes_fault(table: &[u8]) -> Option<u64>
     requires { rules_at table.now ≤ length table.now }
-    ensures { result ≡ entry_prefixes_fault table.now }
+    ensures { result ≡ nonzero (entry_prefixes_fault table.now) }
 {
     entry_pairs_fault(table, records::entries(table))
 }
@@ -108,91 +94,53 @@ pub(crate) fn entries_apart(table: &[u8], n: usize) -> bool
     requires { (16 + 64 * n ≤ length table.now) × (n < 65536) }
     ensures { result ≡ distinct (same_entry_prefix table.now) n }
 {
-    if ascending(table, n) {
+    if ascending(n, |i, j| precedes(table, i, j)) {
         return true;
     }
-    entry_pairs_fault(table, n) == 0
+    entry_pairs_fault(table, n).is_none()
+}
+
+// A rule's prefix with its length, as one number.
+fn rule_key(r: &Rule) -> u64
+    ensures { result ≡ rule_key_of r.now }
+{
+    numbers::four(rule::prefix_of(r), 0) * 256 + u64::from(r[rule::PREFIX_LENGTH])
 }
 
 fn same_rule_prefix(table: &[u8], i: usize, j: usize) -> bool
     requires { (rules_at table.now + 160 * (i + 1) ≤ length table.now) × (rules_at table.now + 160 * (j + 1) ≤ length table.now) }
     ensures { result ≡ same_rule_prefix table.now i j }
 {
-    let r = records::rule_at(table, i);
-    let s = records::rule_at(table, j);
-    (r[rule::PREFIX_LENGTH] == s[rule::PREFIX_LENGTH])
-        & (numbers::four(rule::prefix_of(r), 0) == numbers::four(rule::prefix_of(s), 0))
+    rule_key(records::rule_at(table, i)) == rule_key(records::rule_at(table, j))
 }
 
-// No rule before j has the prefix of rule j with its length.
-fn rule_fresh(table: &[u8], j: usize) -> bool
-    requires { rules_at table.now + 160 * (j + 1) ≤ length table.now }
-    ensures { result ≡ all (λ i. not (same_rule_prefix table.now i j)) j }
-{
-    let mut i = 0;
-    while i < j {
-        if same_rule_prefix(table, i, j) {
-            return false;
-        }
-        i += 1;
-    }
-    true
-}
-
-pub fn rule_prefixes_fault(table: &[u8]) -> u64
+pub fn rule_prefixes_fault(table: &[u8]) -> Option<u64>
     requires { policies_at table.now ≤ length table.now }
-    ensures { result ≡ rule_prefixes_fault table.now }
+    ensures { result ≡ nonzero (rule_prefixes_fault table.now) }
 {
-    let n = records::rules(table);
-    let mut j = 0;
-    while j < n {
-        if !rule_fresh(table, j) {
-            return faults::told(faults::RULE, j, RULE_REPEATED);
-        }
-        j += 1;
-    }
-    0
+    repeated(
+        faults::RULE,
+        records::rules(table),
+        RULE_REPEATED,
+        |i, j| same_rule_prefix(table, i, j),
+    )
 }
 
-// Rule r stands before rule s: by the prefix, then by its length.
-fn rule_precedes(r: &[u8], s: &[u8]) -> bool
-    requires { (length r.now ≡ 160) × (length s.now ≡ 160) }
-    ensures { result ≡ ltb (rule_key_of r.now) (rule_key_of s.now) }
+// Rule i stands before rule j, of rules that begin at `start`: by the prefix, then by its length.
+fn rule_precedes(table: &[u8], start: usize, i: usize, j: usize) -> bool
+    requires { (start ≡ rules_at table.now) × (start + 160 * (i + 1) ≤ length table.now) × (start + 160 * (j + 1) ≤ length table.now) }
+    ensures { result ≡ ltb (rule_key table.now i) (rule_key table.now j) }
 {
-    let p = numbers::four(rule::prefix_of(r), 0);
-    let q = numbers::four(rule::prefix_of(s), 0);
-    if p != q {
-        return p < q;
-    }
-    r[rule::PREFIX_LENGTH] < s[rule::PREFIX_LENGTH]
+    rule_key(records::rule_from(table, start, i)) < rule_key(records::rule_from(table, start, j))
 }
 
-// The first n rules, which begin at `start`, stand in order, so that no prefix with its length occurs twice among them.
-fn rules_ascending(table: &[u8], start: usize, n: usize) -> bool
-    requires { (start ≡ rules_at table.now) × (start + 160 * n ≤ length table.now) }
-    ensures { result ≡ true → distinct (same_rule_prefix table.now) n ≡ true }
-{
-    if n == 0 {
-        return true;
-    }
-    let mut i = 1;
-    while i < n {
-        let r = records::rule_from(table, start, i - 1);
-        if !rule_precedes(r, records::rule_from(table, start, i)) {
-            return false;
-        }
-        i += 1;
-    }
-    true
-}
-
-// The same of the table's rules, which are n and begin at `start`.
+// No prefix with its length occurs twice among the table's rules, which are n and begin at `start`.
 pub(crate) fn rules_apart(table: &[u8], start: usize, n: usize) -> bool
     requires { (start ≡ rules_at table.now) × (start + 160 * n ≤ length table.now) × (n ≡ rules table.now) }
     ensures { result ≡ distinct (same_rule_prefix table.now) n }
 {
-    if rules_ascending(table, start, n) {
+    if ascending(n, |i, j| rule_precedes(table, start, i, j)) {
         return true;
     }
-    rule_prefixes_fault(table) == 0
+    rule_prefixes_fault(table).is_none()
 }

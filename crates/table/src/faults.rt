@@ -1,12 +1,13 @@
 // The first condition of soundness that a table breaks, as one number.
-ghost use Rattle.std.specs.Prelude.{◌≡◌, [], ◌∷◌, ◌<◌, ◌≤◌, eqb, leb, length};
+ghost use Rattle.std.specs.Prelude.{◌≡◌, ℕ, [], ◌∷◌, ◌<◌, ◌≤◌, eqb, leb, length};
 ghost use Rattle.rules.specs.Octets.{read16};
 ghost use Rattle.rules.specs.Table.{table_size};
 ghost use Rattle.rules.specs.Sound.{entry_limit};
-ghost use Rattle.rules.specs.Fault.{first_broken, header_broken, told, or_else, entries_fault, rules_fault, policies_fault, fault};
+ghost use Rattle.rules.specs.Fault.{first_broken, header_broken, told, entries_fault, rules_fault, policies_fault, fault};
+ghost use Rattle.table.specs.Records.{nonzero, FirstFault};
 
 use crate::{apart, quick};
-use conditions::{entry, policy, rule, unless};
+use conditions::{entry, policy, rule};
 
 pub(crate) const FORMAT: u8 = 1;
 
@@ -33,38 +34,49 @@ pub fn told(kind: u8, index: usize, condition: u8) -> u64
     if condition == 0 {
         return 0;
     }
-    condition as u64 + 256 * (kind as u64) + 65536 * (index as u64)
+    u64::from(condition) + 256 * u64::from(kind) + 65536 * (index as u64)
 }
 
-fn or_else(first: u64, second: u64) -> u64
-    ensures { result ≡ or_else first second }
+fn header_conditions(
+    format: u8,
+    entries: usize,
+    rules: usize,
+    policies: usize,
+    agrees: bool,
+) -> Option<u8>
+    ensures { result ≡ nonzero (first_broken 1 (eqb format 1 ∷ leb entries 64 ∷ leb rules 16 ∷ leb policies 16 ∷ agrees ∷ [])) }
 {
-    if first == 0 { second } else { first }
-}
-
-fn header_conditions(format: u8, entries: usize, rules: usize, policies: usize, agrees: bool) -> u8
-    ensures { result ≡ first_broken 1 (eqb format 1 ∷ leb entries 64 ∷ leb rules 16 ∷ leb policies 16 ∷ agrees ∷ []) }
-{
-    let from_5 = unless(agrees, 5, 0);
-    let from_4 = unless(policies <= POLICY_LIMIT, 4, from_5);
-    let from_3 = unless(rules <= RULE_LIMIT, 3, from_4);
-    let from_2 = unless(entries <= ENTRY_LIMIT, 2, from_3);
-    unless(format == FORMAT, 1, from_2)
+    if format != FORMAT {
+        return Some(1);
+    }
+    if ENTRY_LIMIT < entries {
+        return Some(2);
+    }
+    if RULE_LIMIT < rules {
+        return Some(3);
+    }
+    if POLICY_LIMIT < policies {
+        return Some(4);
+    }
+    if !agrees {
+        return Some(5);
+    }
+    None
 }
 
 fn count_or_0(table: &[u8], at: usize) -> usize
     requires { at < 16 }
     ensures { result ≡ read16 table.now at }
 {
-    octets::join16(
+    usize::from(octets::join16(
         octets::octet_or_0(table, at),
         octets::octet_or_0(table, at + 1),
-    ) as usize
+    ))
 }
 
 // Octets that a table lacks are read as 0.
-fn header_broken(table: &[u8]) -> u8
-    ensures { result ≡ header_broken entry_limit table.now }
+fn header_broken(table: &[u8]) -> Option<u8>
+    ensures { result ≡ nonzero (header_broken entry_limit table.now) }
 {
     if table.len() < records::HEADER_SIZE {
         return header_conditions(
@@ -84,73 +96,66 @@ fn header_broken(table: &[u8]) -> u8
     )
 }
 
-fn entries_fault(table: &[u8]) -> u64
-    requires { table_size table.now ≤ length table.now }
-    ensures { result ≡ entries_fault table.now }
+// The first fault among the records below n of one kind, from the condition that each breaks first.
+fn first_fault<B: Fn(usize) -> u8>(kind: u8, n: usize, broken: B) -> Option<u64>
+    requires { (n ≤ 65536) × ((i : ℕ) → i < n → B.pre broken i) }
+    ensures { FirstFault (B.post broken) kind n result }
 {
-    let count = records::entries(table);
-    let policy_count = records::policies(table);
-    let mut i = 0;
-    while i < count {
-        let condition = entry::broken(records::entry_at(table, i), policy_count);
+    for i in 0..n {
+        let condition = broken(i);
         if condition != 0 {
-            return told(ENTRY, i, condition);
+            return Some(told(kind, i, condition));
         }
-        i += 1;
     }
-    0
+    None
 }
 
-fn rules_fault(table: &[u8]) -> u64
+fn entries_fault(table: &[u8]) -> Option<u64>
     requires { table_size table.now ≤ length table.now }
-    ensures { result ≡ rules_fault table.now }
+    ensures { result ≡ nonzero (entries_fault table.now) }
 {
-    let count = records::rules(table);
-    let mut k = 0;
-    while k < count {
-        let condition = rule::broken(records::rule_at(table, k));
-        if condition != 0 {
-            return told(RULE, k, condition);
-        }
-        k += 1;
-    }
-    0
+    let policies = records::policies(table);
+    first_fault(
+        ENTRY,
+        records::entries(table),
+        |i| entry::broken(records::entry_at(table, i), policies),
+    )
 }
 
-fn policies_fault(table: &[u8]) -> u64
+fn rules_fault(table: &[u8]) -> Option<u64>
     requires { table_size table.now ≤ length table.now }
-    ensures { result ≡ policies_fault table.now }
+    ensures { result ≡ nonzero (rules_fault table.now) }
 {
-    let count = records::policies(table);
-    let mut j = 0;
-    while j < count {
-        let condition = policy::broken(records::policy_at(table, j));
-        if condition != 0 {
-            return told(POLICY, j, condition);
-        }
-        j += 1;
-    }
-    0
+    first_fault(
+        RULE,
+        records::rules(table),
+        |k| rule::broken(records::rule_at(table, k)),
+    )
+}
+
+fn policies_fault(table: &[u8]) -> Option<u64>
+    requires { table_size table.now ≤ length table.now }
+    ensures { result ≡ nonzero (policies_fault table.now) }
+{
+    first_fault(
+        POLICY,
+        records::policies(table),
+        |j| policy::broken(records::policy_at(table, j)),
+    )
 }
 
 // Condition after condition, in their order.
-pub(crate) fn look_for_fault(table: &[u8]) -> u64
-    ensures { result ≡ fault table.now }
+pub(crate) fn look_for_fault(table: &[u8]) -> Option<u64>
+    ensures { result ≡ nonzero (fault table.now) }
 {
-    let header = header_broken(table);
-    if header != 0 {
-        return told(HEADER, 0, header);
+    if let Some(condition) = header_broken(table) {
+        return Some(told(HEADER, 0, condition));
     }
-    or_else(
-        entries_fault(table),
-        or_else(
-            apart::entry_prefixes_fault(table),
-            or_else(
-                rules_fault(table),
-                or_else(apart::rule_prefixes_fault(table), policies_fault(table)),
-            ),
-        ),
-    )
+    entries_fault(table)
+        .or_else(|| apart::entry_prefixes_fault(table))
+        .or_else(|| rules_fault(table))
+        .or_else(|| apart::rule_prefixes_fault(table))
+        .or_else(|| policies_fault(table))
 }
 
 // A sound table is told by a quicker way.
@@ -160,5 +165,5 @@ pub fn fault(table: &[u8]) -> u64
     if quick::surely_sound(table) {
         return 0;
     }
-    look_for_fault(table)
+    look_for_fault(table).unwrap_or(0)
 }

@@ -17,5 +17,5 @@ pub fn sound(table: &[u8]) -> bool
     if quick::surely_sound(table) {
         return true;
     }
-    faults::look_for_fault(table) == 0
+    faults::look_for_fault(table).is_none()
 }

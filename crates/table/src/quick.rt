@@ -11,42 +11,21 @@ fn entries_sound(table: &[u8], n: usize, policies: usize) -> bool
     requires { 16 + 64 * n ≤ length table.now }
     ensures { result ≡ true → all (λ i. entry_sound policies (entry_at table.now i)) n ≡ true }
 {
-    let mut i = 0;
-    while i < n {
-        if !entry::surely_sound(records::entry_at(table, i), policies) {
-            return false;
-        }
-        i += 1;
-    }
-    true
+    (0..n).all(|i| entry::surely_sound(records::entry_at(table, i), policies))
 }
 
 fn rules_sound(table: &[u8], start: usize, n: usize) -> bool
     requires { (start ≡ rules_at table.now) × (start + 160 * n ≤ length table.now) }
     ensures { result ≡ true → all (λ k. rule_sound (rule_at table.now k)) n ≡ true }
 {
-    let mut k = 0;
-    while k < n {
-        if !rule::surely_sound(records::rule_from(table, start, k)) {
-            return false;
-        }
-        k += 1;
-    }
-    true
+    (0..n).all(|k| rule::surely_sound(records::rule_from(table, start, k)))
 }
 
 fn policies_sound(table: &[u8], start: usize, n: usize) -> bool
     requires { (start ≡ policies_at table.now) × (start + 288 * n ≤ length table.now) }
     ensures { result ≡ true → all (λ j. policy_sound (policy_at table.now j)) n ≡ true }
 {
-    let mut j = 0;
-    while j < n {
-        if !policy::surely_sound(records::policy_from(table, start, j)) {
-            return false;
-        }
-        j += 1;
-    }
-    true
+    (0..n).all(|j| policy::surely_sound(records::policy_from(table, start, j)))
 }
 
 // The records of a table whose header names n entries, m rules and q policies.
@@ -94,15 +73,15 @@ pub(crate) fn surely_sound(table: &[u8]) -> bool
     if table[6] != 0 {
         return false;
     }
-    let n = octets::wide(table[3]);
+    let n = usize::from(table[3]);
     if faults::ENTRY_LIMIT < n {
         return false;
     }
-    let m = octets::wide(table[5]);
+    let m = usize::from(table[5]);
     if faults::RULE_LIMIT < m {
         return false;
     }
-    let q = octets::wide(table[7]);
+    let q = usize::from(table[7]);
     if faults::POLICY_LIMIT < q {
         return false;
     }

@@ -5,19 +5,16 @@ use Prim.Native.Nat.{ℕ, ◌+◌, ◌-◌, ◌*◌, ◌%◌, ◌≤◌, ◌<◌
 use native.Mathlib.Omega.{arith}
 use lib.Dec.{eqb}
 use lib.ListN.{length, take, drop}
-use lib.Seq.{get_or-drop, take_all}
+use lib.Seq.{get_or-drop}
 use native.Mathlib.Decide.{ℕ_discrete}
 use borrow.Author.Tests.{eq-eqb, ne_eqb}
 use Rattle.rules.specs.Octets.{Octets, octet, window, read16}
 use Rattle.rules.specs.Checksum.{word_sum}
 use Rattle.rules.specs.UdpChecksum.{udp_checksum6, udp_sum6}
-use Rattle.rules.proofs.Windows.{window-length, window-take}
+use Rattle.rules.proofs.Windows.{window-length}
 use Rattle.rules.proofs.Checksums.{fold, word_sum-append}
 use Rattle.rules.proofs.UdpChecksums.{total_sum, sum-fold, checksum-is}
 use Rattle.octets.proofs.Windows.{window_part}
-
-pub window-all : (s : List ℕ) (n : ℕ) → length s ≡ n → window s 0 n ≡ s
-window-all s n h = window-take s n (omega arith) ∙ take_all n s (omega arith)
 
 -- the complement of a total that is the sum of the words but for a multiple of 65,535
 pub total-checksum : (s d u : List ℕ) (t : ℕ) → length s ≡ 16 → length d ≡ 16 → length u < 65536 → Octets s → Octets d → Octets u

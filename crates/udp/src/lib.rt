@@ -18,32 +18,6 @@ const CHECKSUM_AT: usize = 6;
 // UDP's number in the pseudo-header.
 const UDP: u64 = 17;
 
-// The sum of six 16-bit words.
-fn six(a: u8, b: u8, c: u8, d: u8, e: u8, f: u8, g: u8, h: u8, i: u8, j: u8, k: u8, l: u8) -> u64
-    ensures { (result ≡ a * 256 + b + (c * 256 + d + (e * 256 + f + (g * 256 + h + (i * 256 + j + (k * 256 + l)))))) × (result < 393216) }
-{
-    (a as u64) * 256
-        + (b as u64)
-        + ((c as u64) * 256
-            + (d as u64)
-            + ((e as u64) * 256
-                + (f as u64)
-                + ((g as u64) * 256
-                    + (h as u64)
-                    + ((i as u64) * 256 + (j as u64) + ((k as u64) * 256 + (l as u64))))))
-}
-
-// The sum of the words of 24 octets, by value.
-fn twelve(x: [u8; 24]) -> u64
-    ensures { (result ≡ word_sum x) × (result < 786432) }
-{
-    six(
-        x[0], x[1], x[2], x[3], x[4], x[5], x[6], x[7], x[8], x[9], x[10], x[11],
-    ) + six(
-        x[12], x[13], x[14], x[15], x[16], x[17], x[18], x[19], x[20], x[21], x[22], x[23],
-    )
-}
-
 // What is sent for words whose sum this is: a computed 0 as FFFF.
 fn complement(total: u64) -> u16
     ensures { result ≡ 65535 - total % 65535 }
@@ -56,13 +30,12 @@ pub fn checksum(from: [u8; 16], to: [u8; 16], head: [u8; 24], rest: &[u8]) -> u1
     requires { 24 + length rest.now < 65536 }
     ensures { result ≡ udp_checksum6 from to (head ++ rest.now) }
 {
-    let size = 24 + rest.len() as u64;
     complement(
         sum::unreduced_address(from)
             + sum::unreduced_address(to)
-            + size
+            + (24 + rest.len() as u64)
             + UDP
-            + twelve(head)
+            + sum::unreduced(&head)
             + sum::unreduced(rest),
     )
 }

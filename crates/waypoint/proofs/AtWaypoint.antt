@@ -12,7 +12,7 @@ use Rattle.rules.specs.Header.{header, bad_chain, WellFormed}
 use Rattle.rules.specs.Waypoint.{Routing, routing, step, with_routing, step_rows, waypoint_rows}
 use Rattle.rules.specs.Plan.{waypoint_plan}
 use Rattle.rules.specs.declared.Header.{Header}
-use Rattle.rules.specs.declared.Verdict.TheVariants.{Refuse}
+use Rattle.std.specs.Prelude.{Err}
 use Rattle.rules.proofs.Judging.{row_yes, row_no}
 use Rattle.rules.proofs.Plans.{passes_long}
 use Rattle.answer.proofs.Calling.{Judged}
@@ -52,7 +52,7 @@ front_size f s hf hd =
 
 module _ (p : List ℕ) (h : Header) (s : WellFormed p h) where
   -- row 5
-  pub chain_judged : any (bad_chain h) ≡ true → Judged (waypoint_plan p) p 48 (length p - 40) (Refuse (plain 5))
+  pub chain_judged : any (bad_chain h) ≡ true → Judged (waypoint_plan p) p 48 (length p - 40) (Err (plain 5))
   unfolding waypoint_plan waypoint_rows
   chain_judged e = record {
     rows = row_yes (bad_chain (header p)) (plain 5) (step_rows (header p).segmentsLeft (header p).hopLimit (header p))

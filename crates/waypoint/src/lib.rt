@@ -8,11 +8,10 @@ ghost use Rattle.rules.specs.Header.{WellFormed};
 ghost use Rattle.rules.specs.Waypoint.{with_routing, at_waypoint};
 ghost use Rattle.copying.specs.Run.{Run};
 ghost use Rattle.srh.specs.State.{state};
-ghost use Rattle.answer.specs.Answered.{Answered};
+ghost use Rattle.answer.specs.Answered.{Settled};
 
-use answer::Answer;
 use rules::Refusal;
-use srh::{Address, Routing, Stepped};
+use srh::{Address, Routing};
 
 // The IPv6 header and the first eight octets of the SRH: all that changes stands in them.
 const FRONT: usize = 48;
@@ -43,25 +42,23 @@ fn put_front(out: &mut [u8], front: [u8; 48], s: Routing)
 }
 
 // The packet at a waypoint entry. The front is read a second time where it is written: handed down whole, it would be held by every call.
-pub fn at_waypoint(h: rules::Header, front: [u8; 48], packet: &[u8], out: &mut [u8]) -> Answer
+pub fn at_waypoint(
+    h: rules::Header,
+    front: [u8; 48],
+    packet: &[u8],
+    out: &mut [u8],
+) -> Result<usize, Refusal>
     requires { WellFormed packet.now h × (front ≡ window packet.now 0 48) }
-    ensures { Answered (settle (length out.old) (at_waypoint packet.now)) out.old result
+    ensures { Settled (settle (length out.old) (at_waypoint packet.now)) out.old result
         out.new }
 {
     if ip::bad_chain(h) {
-        return Answer::refused(Refusal::bad_chain());
+        return Err(Refusal::bad_chain());
     }
     let segment = Address::at(packet, segment_at(h.segmentsLeft));
-    let stepped = Routing::of(front).step(h, segment);
-    match stepped {
-        Stepped::Refused(r) => Answer::refused(r),
-        Stepped::Next(s) => {
-            let a = answer::send(FRONT, packet, FRONT, out);
-            if a.number == 0 {
-                let again = octets::window48(packet, 0);
-                put_front(out, again, s);
-            }
-            a
-        }
-    }
+    let next = Routing::of(front).step(h, segment)?;
+    let sent = answer::send(FRONT, packet, FRONT, out)?;
+    let again = octets::window::<48>(packet, 0);
+    put_front(out, again, next);
+    Ok(sent)
 }

@@ -41,8 +41,6 @@ const ANY_LENGTH: usize = 70_000;
 const TRIES_PER_CASE: u64 = 20_000;
 /// What a call may use of the stack: an eighth of the smallest stack that a
 /// thread can have on Linux (PTHREAD_STACK_MIN, 16,384), so any thread can call.
-/// It is also less than a call would use if the array by way of which
-/// `copying::copy_block` copies, 2,048 octets, were there in the object code.
 const STACK_BOUND: usize = 2048;
 
 /// A count of which 0 would show nothing.

@@ -1,4 +1,5 @@
-use mathlib.Core.Path.{◌≡◌, ◌∙◌}
+use mathlib.Core.Path.{◌≡◌, refl, ◌∙◌}
+use Rattle.std.proofs.lemmas.Result.{err_from_is_err_and}
 use Prim.Native.Nat.{ℕ}
 use mathlib.Core.List.{List, [], ◌++◌}
 use native.Mathlib.Omega.{arith}
@@ -21,16 +22,17 @@ head_of p at class hops source destination datagram hs hd hu =
     ∙ ipv6_before class 22 17 hops (window p 24 16) (window p 8 16)
     (echo_answer (echo_checksum (window p 24 16) (window p 8 16) (drop at p)) (drop at p))
 
-pub returns-then-a-eq0 : goal.returns-then-a-eq0
-returns-then-a-eq0 c =
+pub returns-in_err-sent : goal.returns-in_err-sent
+returns-in_err-sent c =
     let a = c.args in
-    reply_sent _ a.packet.now c.send-a.ensures (head_of a.packet.now a.at a.class a.hops _ _ _ c.window16-source.ensures
-    c.window16-destination.ensures c.response6-datagram.ensures)
-    c.if-a-eq0.true c.put_reply6.ensures
+    let p = err_from_is_err_and c.from_residual.result c.from_residual.ensures.1 in
+    rw (p.1, p.2)
+    (reply_no_room _ a.packet.now c.in_err-sent.ensures (head_of a.packet.now a.at a.class a.hops _ _ _ c.window-source.ensures
+    c.window-destination.ensures c.response6-datagram.ensures) refl
+    (simp length-append (omega (arith, c.response6-datagram.type_inv, c.window-source.type_inv, c.window-destination.type_inv))))
 
-pub returns-else-a-eq0 : goal.returns-else-a-eq0
-returns-else-a-eq0 c =
+pub returns : goal.returns
+returns c =
     let a = c.args in
-    reply_no_room _ a.packet.now c.send-a.ensures (head_of a.packet.now a.at a.class a.hops _ _ _ c.window16-source.ensures
-    c.window16-destination.ensures c.response6-datagram.ensures) c.if-a-eq0.false
-    (simp length-append (omega (arith, c.response6-datagram.type_inv, c.window16-source.type_inv, c.window16-destination.type_inv)))
+    reply_sent _ a.packet.now c.in_ok-sent.ensures (head_of a.packet.now a.at a.class a.hops _ _ _ c.window-source.ensures
+    c.window-destination.ensures c.response6-datagram.ensures) refl c.put_reply6.ensures

@@ -11,10 +11,10 @@ returns-then-units-eq0 c = search no_units_lem
 
 pub returns-then-gtp-next : goal.returns-then-gtp-next
 returns-then-gtp-next c =
-    past_units c.args.gtp.now c.args.at _ _ _ c.octet_or_0-kind.ensures c.octet_or_0-units.ensures c.wide.ensures.0
+    past_units c.args.gtp.now c.args.at _ _ _ c.octet_or_0-kind.ensures c.octet_or_0-units.ensures c.from.ensures
     c.if-kind-eq0.false c.if-units-eq0.false (omega (arith, c.if-gtp-next.true))
 
 pub returns : goal.returns
 returns c =
-    header_at c.args.gtp.now c.args.at _ _ _ c.octet_or_0-kind.ensures c.octet_or_0-units.ensures c.wide.ensures.0
+    header_at c.args.gtp.now c.args.at _ _ _ c.octet_or_0-kind.ensures c.octet_or_0-units.ensures c.from.ensures
     c.if-kind-eq0.false c.if-units-eq0.false (omega (arith, c.if-gtp-next.false))

@@ -14,8 +14,8 @@ unfolding e4_head
 returns c =
     let a = c.args in
     let e : List ℕ = a.e.now in
-    let from = c.window4-source.ensures ∙ ap (λ (k : ℕ). window a.from k 4) c.wide.ensures.0 in
-    let to = c.window4-destination.ensures ∙ ap (λ (k : ℕ). window a.sid k 4) c.wide-2.ensures.0 in
+    let from = c.window-source.ensures ∙ ap (λ (k : ℕ). window a.from k 4) c.wide.ensures.0 in
+    let to = c.window-destination.ensures ∙ ap (λ (k : ℕ). window a.sid k 4) c.wide-2.ensures.0 in
     let head = c.head_of-head in
     let octets = head.ensures ∙ (λ i. datagram_before (c.join16-port.ensures.0 i) (octet e 3) 0 (c.from_sid-args.ensures i) a.size []) in
     run_as

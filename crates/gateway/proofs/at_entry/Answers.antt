@@ -1,5 +1,6 @@
+use Rattle.std.proofs.Common.{rules}
 use Rattle.gateway.proofs.Matches.{at_gtp6d_entry, found_at_gtp6d}
-use Rattle.answer.proofs.Settling.{answered_as}
+use Rattle.answer.proofs.Settling.{settled_as}
 use Rattle.table.proofs.Bounds.{found-entry_within, policy_within}
 use Rattle.rules.proofs.Entries.{at_waypoint_lem, at_e6_lem, at_e4_lem}
 use Rattle.rules.proofs.Tables.{found-entry, found-e6, found-e4}
@@ -61,7 +62,7 @@ returns-then-behaviour-eq-END c =
     let t : List ℕ = a.table.now in
     let p : List ℕ = a.packet.now in
     let b = behaviour-is t a.i c.entry_at-e.ensures.same ∙ c.if-behaviour-eq-END.true in
-    answered_as _ _ _ _ _ (ap (settle (length a.out.now)) (sym (at_waypoint_lem t (entry_at t a.i) p b))) c.at_waypoint.ensures
+    settled_as _ _ _ _ _ (ap (settle (length a.out.now)) (sym (at_waypoint_lem t (entry_at t a.i) p b))) c.at_waypoint.ensures
 
 pub at_e6-requires : goal.at_e6-requires
 at_e6-requires c =
@@ -70,7 +71,7 @@ at_e6-requires c =
     let l = c.entry_at-e.ensures in
     let b = behaviour-is a.table.now a.i l.same ∙ c.if-behaviour-eq-END_M_GTP6_E.true in
     let f = found-e6 entry_limit a.table.now (Ipv6.destination a.packet.now) a.i m.sound m.found b in
-    (record { entry = l.long; arrived = m.arrived }, subst SoundE6 (sym l.same) f)
+    (record { entry = search rules; arrived = m.arrived }, subst SoundE6 (sym l.same) f)
 
 pub returns-then-behaviour-eq-END_M_GTP6_E : goal.returns-then-behaviour-eq-END_M_GTP6_E
 returns-then-behaviour-eq-END_M_GTP6_E c =
@@ -80,7 +81,7 @@ returns-then-behaviour-eq-END_M_GTP6_E c =
     let room = length a.out.now in
     let same = c.entry_at-e.ensures.same in
     let b = behaviour-is t a.i same ∙ c.if-behaviour-eq-END_M_GTP6_E.true in
-    answered_as _ _ _ _ _ ((λ i. settle room (at_e6 (same i) p)) ∙ ap (settle room) (sym (at_e6_lem t (entry_at t a.i) p b)))
+    settled_as _ _ _ _ _ ((λ i. settle room (at_e6 (same i) p)) ∙ ap (settle room) (sym (at_e6_lem t (entry_at t a.i) p b)))
     c.at_e6.ensures
 
 pub at_e4-requires : goal.at_e4-requires
@@ -90,7 +91,7 @@ at_e4-requires c =
     let l = c.entry_at-e.ensures in
     let b = behaviour-is a.table.now a.i l.same ∙ c.if-behaviour-eq-END_M_GTP4_E.true in
     let f = found-e4 entry_limit a.table.now (Ipv6.destination a.packet.now) a.i m.sound m.found b in
-    (record { entry = l.long; arrived = m.arrived }, subst SoundE4 (sym l.same) f)
+    (record { entry = search rules; arrived = m.arrived }, subst SoundE4 (sym l.same) f)
 
 -- what the call answered is found by what it says, not by the name of the function
 pub returns-then-behaviour-eq-END_M_GTP4_E : goal.returns-then-behaviour-eq-END_M_GTP4_E
@@ -101,7 +102,7 @@ returns-then-behaviour-eq-END_M_GTP4_E c =
     let room = length a.out.now in
     let same = c.entry_at-e.ensures.same in
     let b = behaviour-is t a.i same ∙ c.if-behaviour-eq-END_M_GTP4_E.true in
-    answered_as _ _ _ _ _ ((λ i. settle room (at_e4 (same i) p)) ∙ ap (settle room) (sym (at_e4_lem t (entry_at t a.i) p b)))
+    settled_as _ _ _ _ _ ((λ i. settle room (at_e4 (same i) p)) ∙ ap (settle room) (sym (at_e4_lem t (entry_at t a.i) p b)))
     (assumption c)
 
 pub policy_at-policy-requires : goal.policy_at-policy-requires
@@ -123,8 +124,8 @@ at_gtp6d-requires c =
     let d = gtp6d_of a.table.now a.i same m c.if-behaviour-eq-END.false c.if-behaviour-eq-END_M_GTP6_E.false
     c.if-behaviour-eq-END_M_GTP4_E.false in
     record {
-      entry = c.entry_at-e.ensures.long;
-      octets = c.policy_at-policy.ensures.long;
+      entry = search rules;
+      octets = search rules;
       sound = subst SoundPolicy (sym (policy-is a.table.now a.i same c.wide.ensures.0 c.policy_at-policy.ensures.same)) d.policy;
       one = k.1;
       two = k.2;
@@ -144,6 +145,6 @@ returns c =
     let tail = c.tail_of.ensures.0 ∙ ap (λ (b : ℕ). tail_at b) (sym (behaviour-is t a.i same)) in
     let policy = policy-is t a.i same c.wide.ensures.0 c.policy_at-policy.ensures.same in
     let known = found-entry entry_limit t (Ipv6.destination p) a.i m.sound m.found in
-    answered_as _ _ _ _ _
+    settled_as _ _ _ _ _
     ((λ i. settle room (at_gtp6d (tail i) (same i) (policy i) p))
     ∙ ap (settle room) (at_gtp6d_entry (policies t) e known o.0 o.1 o.2 t p)) c.at_gtp6d.ensures

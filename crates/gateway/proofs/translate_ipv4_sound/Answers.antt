@@ -10,7 +10,7 @@ use lib.ListN.{length}
 use native.Mathlib.Omega.{arith}
 use Prim.Native.Nat.{ℕ}
 use mathlib.Core.List.{List}
-use mathlib.Core.Path.{◌≡◌, refl, sym, ap, ◌∙◌}
+use mathlib.Core.Path.{◌≡◌, sym, ap, ◌∙◌}
 use Rattle.gateway.proofs.translate_ipv4_sound.Goals as goal
 
 -- the view is that of the packet, and so what is tested of it
@@ -29,12 +29,12 @@ pub returns-then-is_malformed4 : goal.returns-then-is_malformed4
 unfolding rule_found
 returns-then-is_malformed4 c =
     let a = c.args in
-    let m = tested a.packet.now c.window20.ensures c.header4_of-h.ensures c.is_malformed4.ensures c.if-is_malformed4.true in
+    let m = tested a.packet.now c.window.ensures c.header4_of-h.ensures c.is_malformed4.ensures c.if-is_malformed4.true in
     let refused = malformed_4 a.packet.now a.table.now (length a.out.now) c.requires m in
     record {
-      answered = answered_named _ (plain 2) _ _ _ refused c.malformed.ensures c.refused.ensures;
-      found = rw m;
-      upperAt = refl;
+      answered = answered_named _ (plain 2) _ _ _ refused c.malformed.ensures c.refused.ensures.answer;
+      found = rw m c.refused.ensures.found;
+      upperAt = c.refused.ensures.upperAt;
     }
 
 -- the refusal is found by what it says, not by the name of its maker
@@ -42,19 +42,19 @@ pub returns-then-bad_header4 : goal.returns-then-bad_header4
 unfolding rule_found
 returns-then-bad_header4 c =
     let a = c.args in
-    let m = tested a.packet.now c.window20.ensures c.header4_of-h.ensures c.is_malformed4.ensures c.if-is_malformed4.false in
-    let b = tested-3 a.packet.now c.window20.ensures c.header4_of-h.ensures c.bad_header4.ensures c.if-bad_header4.true in
+    let m = tested a.packet.now c.window.ensures c.header4_of-h.ensures c.is_malformed4.ensures c.if-is_malformed4.false in
+    let b = tested-3 a.packet.now c.window.ensures c.header4_of-h.ensures c.bad_header4.ensures c.if-bad_header4.true in
     let refused = bad_4 a.packet.now a.table.now (length a.out.now) c.requires m b in
     record {
-      answered = answered_named _ (plain 3) _ _ _ refused (assumption c) c.refused-then-bad_header4.ensures;
-      found = rw (m, b);
-      upperAt = refl;
+      answered = answered_named _ (plain 3) _ _ _ refused (assumption c) c.refused-then-bad_header4.ensures.answer;
+      found = rw (m, b) c.refused-then-bad_header4.ensures.found;
+      upperAt = c.refused-then-bad_header4.ensures.upperAt;
     }
 
 pub at_match4-requires : goal.at_match4-requires
 at_match4-requires c = (
   c.requires,
-  well_formed4 c.args.packet.now _ (viewed c.args.packet.now c.window20.ensures c.header4_of-h.ensures)
+  well_formed4 c.args.packet.now _ (viewed c.args.packet.now c.window.ensures c.header4_of-h.ensures)
       (sym c.is_malformed4.ensures ∙ c.if-is_malformed4.false)
       (omega (arith, c)),
 )
@@ -63,8 +63,8 @@ pub returns : goal.returns
 unfolding rule_found
 returns c =
     let a = c.args in
-    let m = tested a.packet.now c.window20.ensures c.header4_of-h.ensures c.is_malformed4.ensures c.if-is_malformed4.false in
-    let b = tested-3 a.packet.now c.window20.ensures c.header4_of-h.ensures c.bad_header4.ensures c.if-bad_header4.false in
+    let m = tested a.packet.now c.window.ensures c.header4_of-h.ensures c.is_malformed4.ensures c.if-is_malformed4.false in
+    let b = tested-3 a.packet.now c.window.ensures c.header4_of-h.ensures c.bad_header4.ensures c.if-bad_header4.false in
     let d = c.at_match4.ensures in
     record {
       answered = answered_as _ _ _ _ _ (matched4 a.packet.now a.table.now (length a.out.now) c.requires m b) d.answered;

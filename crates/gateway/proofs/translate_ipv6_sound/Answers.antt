@@ -26,30 +26,31 @@ pub returns-then-is_malformed : goal.returns-then-is_malformed
 unfolding entry_found
 returns-then-is_malformed c =
     let a = c.args in
-    let m = tested a.packet.now c.window48-front.ensures c.header_of-h.ensures c.is_malformed.ensures c.if-is_malformed.true in
+    let m = tested a.packet.now c.window-front.ensures c.header_of-h.ensures c.is_malformed.ensures c.if-is_malformed.true in
     let refused = malformed6 a.packet.now a.table.now (length a.out.now) c.requires m in
     record {
-      answered = answered_named _ (plain 2) _ _ _ refused c.malformed.ensures c.refused.ensures;
-      found = rw m;
-      upperAt = ap (λ (h : Header). h.upperAt) (viewed a.packet.now c.window48-front.ensures c.header_of-h.ensures);
+      answered = answered_named _ (plain 2) _ _ _ refused c.malformed.ensures c.refused.ensures.answer;
+      found = rw m c.refused.ensures.found;
+      upperAt = c.refused.ensures.upperAt
+          ∙ ap (λ (h : Header). h.upperAt) (viewed a.packet.now c.window-front.ensures c.header_of-h.ensures);
     }
 
 pub at_match-requires : goal.at_match-requires
 at_match-requires c =
     let clear = sym c.is_malformed.ensures ∙ c.if-is_malformed.false in (
       c.requires,
-      well_formed c.args.packet.now _ (viewed c.args.packet.now c.window48-front.ensures c.header_of-h.ensures) clear (omega (arith, c)),
-      c.window48-front.ensures,
+      well_formed c.args.packet.now _ (viewed c.args.packet.now c.window-front.ensures c.header_of-h.ensures) clear (omega (arith, c)),
+      c.window-front.ensures,
     )
 
 pub returns : goal.returns
 unfolding entry_found
 returns c =
     let a = c.args in
-    let m = tested a.packet.now c.window48-front.ensures c.header_of-h.ensures c.is_malformed.ensures c.if-is_malformed.false in
+    let m = tested a.packet.now c.window-front.ensures c.header_of-h.ensures c.is_malformed.ensures c.if-is_malformed.false in
     let d = c.at_match.ensures in
     record {
       answered = answered_as _ _ _ _ _ (matched6 a.packet.now a.table.now (length a.out.now) c.requires m) d.answered;
       found = rw m d.found;
-      upperAt = d.upperAt ∙ ap (λ (h : Header). h.upperAt) (viewed a.packet.now c.window48-front.ensures c.header_of-h.ensures);
+      upperAt = d.upperAt ∙ ap (λ (h : Header). h.upperAt) (viewed a.packet.now c.window-front.ensures c.header_of-h.ensures);
     }

@@ -7,6 +7,6 @@ pub returns : goal.returns
 returns c =
     let p = c.args.packet.now in
     c.datagram_of.ensures
-    ∙ view_read p _ _ c.args.at _ _ _ _ _ c.window24-front.ensures c.saturating_sub-size.ensures
+    ∙ view_read p _ _ c.args.at _ _ _ _ _ c.window-front.ensures c.saturating_sub-size.ensures
     (tail_all c.within-start.result p ∙ c.within-start.ensures.1) c.first.ensures c.fields_of-fields.ensures
     c.octet_or_0-content.ensures c.octet_or_0-following.ensures

@@ -1,4 +1,5 @@
-use mathlib.Core.Path.{◌≡◌, sym, ◌∙◌}
+use mathlib.Core.Path.{◌≡◌, refl, sym, ◌∙◌}
+use Rattle.std.proofs.lemmas.Result.{err_from_is_err_and}
 use mathlib.Core.List.{List, [], ◌++◌}
 use Prim.Native.Nat.{ℕ, ◌+◌, ◌-◌}
 use native.Mathlib.Omega.{arith}
@@ -25,20 +26,22 @@ together e p r n hops source destination header size hop from to read =
     let built = read ∙ (λ i. icmp r (checksum_of (from i) (to i) (icmp r 0 (part i))) []) in
     (λ i. sent_by (ipv6 0 (8 + (size ∙ sym (quoted-length p)) i) 58 (hop i) (from i) (to i) [] ++ built i) 0 (part i)) ∙ whole e r p
 
-pub returns-then-a-eq0 : goal.returns-then-a-eq0
-returns-then-a-eq0 c =
+pub returns : goal.returns
+returns c =
     message-sent _ _ _
     (together c.args.e.now c.args.packet.now c.args.r _ _ _ _ _ c.quoted_size-n.ensures.0 c.octet_or_0-hops.ensures
-    c.window16-source.ensures c.window16-destination.ensures c.header_for-header.ensures)
-    c.send-a.ensures c.if-a-eq0.true c.put_headers.ensures
+    c.window-source.ensures c.window-destination.ensures c.header_for-header.ensures)
+    c.in_ok-sent.ensures refl c.put_headers.ensures
 
-pub returns-else-a-eq0 : goal.returns-else-a-eq0
-returns-else-a-eq0 c =
-    let h = headers c.quoted_size-n.result c.octet_or_0-hops.result c.window16-source.result c.window16-destination.result
+pub returns-in_err-sent : goal.returns-in_err-sent
+returns-in_err-sent c =
+    let p = err_from_is_err_and c.from_residual.result c.from_residual.ensures.1 in
+    let h = headers c.quoted_size-n.result c.octet_or_0-hops.result c.window-source.result c.window-destination.result
     c.header_for-header.result in
-    message_no_room _ _ h
+    rw (p.1, p.2)
+    (message_no_room _ _ h
     (together c.args.e.now c.args.packet.now c.args.r _ _ _ _ _ c.quoted_size-n.ensures.0 c.octet_or_0-hops.ensures
-    c.window16-source.ensures c.window16-destination.ensures c.header_for-header.ensures)
-    c.send-a.ensures c.if-a-eq0.false
+    c.window-source.ensures c.window-destination.ensures c.header_for-header.ensures)
+    c.in_err-sent.ensures refl
     (simp length-append
-    (omega (arith, c.header_for-header.type_inv, c.window16-source.type_inv, c.window16-destination.type_inv)))
+    (omega (arith, c.header_for-header.type_inv, c.window-source.type_inv, c.window-destination.type_inv))))

@@ -13,11 +13,11 @@ entry_at-requires c =
     let d : ℕ = octet a.e.now 3 in
     let policy : List ℕ = a.policy.now in
     let t : List ℕ = a.far.now in
-    let count = c.wide.ensures.0 in
+    let count = c.from.ensures in
     let before = c.saturating_sub-before.ensures ∙ ap (λ (n : ℕ). n - 1) count in
-    let last = c.window16-last.ensures ∙ ap (λ (n : ℕ). window policy (16 + 16 * n) 16) before in
+    let last = c.window-last.ensures ∙ ap (λ (n : ℕ). window policy (16 + 16 * n) 16) before in
     let r = c.reach6-found.ensures ∙ ap (λ (sid : List ℕ). reach6 t d sid (octet policy 1)) last in
-    let m = sym r ∙ c.in-At.is in
+    let m = sym r ∙ c.in-Some.is in
     omega (arith, reach6-below t _ _ _ _ m)
 
 pub told-requires : goal.told-requires
@@ -26,9 +26,9 @@ told-requires c =
     let d : ℕ = octet a.e.now 3 in
     let policy : List ℕ = a.policy.now in
     let t : List ℕ = a.far.now in
-    let count = c.wide.ensures.0 in
+    let count = c.from.ensures in
     let before = c.saturating_sub-before.ensures ∙ ap (λ (n : ℕ). n - 1) count in
-    let last = c.window16-last.ensures ∙ ap (λ (n : ℕ). window policy (16 + 16 * n) 16) before in
+    let last = c.window-last.ensures ∙ ap (λ (n : ℕ). window policy (16 + 16 * n) 16) before in
     let r = c.reach6-found.ensures ∙ ap (λ (sid : List ℕ). reach6 t d sid (octet policy 1)) last in
-    let m = sym r ∙ c.in-At.is in
+    let m = sym r ∙ c.in-Some.is in
     omega (arith, reach6-below t _ _ _ _ m)

@@ -1,31 +1,19 @@
-use mathlib.Core.Path.{◌≡◌, sym, ◌∙◌}
+use mathlib.Core.Path.{◌≡◌, ◌∙◌}
 use mathlib.Core.List.{List}
 use Prim.Native.Nat.{ℕ, ◌≤◌, ◌<◌}
 use native.Mathlib.Omega.{arith}
 use mathlib.Core.Bool.{true}
 use Rattle.rules.specs.Sound.{sound}
 use Rattle.rules.specs.Table.{rules}
+use Rattle.pair.specs.Mismatch.{mismatch4}
 use Rattle.table.proofs.Bounds.{sound-size, entries_within_lem, rule_within}
 use Rattle.pair.proofs.Fitting.{rule-p}
-use Rattle.pair.proofs.Laws.{few_entries, near_unsound4_lem, far_unsound4_lem, no_rule4, at_far4_lem}
+use Rattle.pair.proofs.Laws.{few_entries, no_rule4, at_far4_lem}
 use Rattle.pair.proofs.mismatch4.Goals as goal
 
-pub returns-then-not-sound : goal.returns-then-not-sound
-returns-then-not-sound c =
-    let a = c.args in
-    let near : List ℕ = a.near.now in
-    let far : List ℕ = a.far.now in
-    let i : ℕ = a.k in
-    near_unsound4_lem near far i (sym c.sound.ensures ∙ c.if-not-sound.true)
-
-pub returns-then-not-sound-2 : goal.returns-then-not-sound-2
-returns-then-not-sound-2 c =
-    let a = c.args in
-    let near : List ℕ = a.near.now in
-    let far : List ℕ = a.far.now in
-    let i : ℕ = a.k in
-    let sn : sound near ≡ true = sym c.sound.ensures ∙ c.if-not-sound.false in
-    far_unsound4_lem near far i sn (sym c.sound-2.ensures ∙ c.if-not-sound-2.true)
+pub returns-in-Some : goal.returns-in-Some
+unfolding mismatch4
+returns-in-Some c = c.in-Some.ensures _
 
 pub rules-requires : goal.rules-requires
 rules-requires c =
@@ -33,7 +21,7 @@ rules-requires c =
     let near : List ℕ = a.near.now in
     let far : List ℕ = a.far.now in
     let i : ℕ = a.k in
-    let sn : sound near ≡ true = sym c.sound.ensures ∙ c.if-not-sound.false in
+    let sn : sound near ≡ true = c.in_default.ensures.0 in
     omega (arith, sound-size near sn)
 
 pub returns-then-rules-k : goal.returns-then-rules-k
@@ -42,9 +30,8 @@ returns-then-rules-k c =
     let near : List ℕ = a.near.now in
     let far : List ℕ = a.far.now in
     let i : ℕ = a.k in
-    let sn : sound near ≡ true =
-    sym c.sound.ensures ∙ c.if-not-sound.false in
-    let sf : sound far ≡ true = sym c.sound-2.ensures ∙ c.if-not-sound-2.false in
+    let sn : sound near ≡ true = c.in_default.ensures.0 in
+    let sf : sound far ≡ true = c.in_default.ensures.1 in
     let l : rules near ≤ i = rw (← c.rules.ensures.value) c.if-rules-k.true in
     no_rule4 near far i sn sf l
 
@@ -54,9 +41,8 @@ rule_at-requires c =
     let near : List ℕ = a.near.now in
     let far : List ℕ = a.far.now in
     let i : ℕ = a.k in
-    let sn : sound near ≡ true =
-    sym c.sound.ensures ∙ c.if-not-sound.false in
-    let sf : sound far ≡ true = sym c.sound-2.ensures ∙ c.if-not-sound-2.false in
+    let sn : sound near ≡ true = c.in_default.ensures.0 in
+    let sf : sound far ≡ true = c.in_default.ensures.1 in
     let l : i < rules near = rw (← c.rules.ensures.value) c.if-rules-k.false in
     rule_within near sn i l
 
@@ -66,11 +52,10 @@ at_far4-requires c =
     let near : List ℕ = a.near.now in
     let far : List ℕ = a.far.now in
     let i : ℕ = a.k in
-    let sn : sound near ≡ true = sym c.sound.ensures ∙ c.if-not-sound.false in
-    let sf : sound far ≡ true =
-    sym c.sound-2.ensures ∙ c.if-not-sound-2.false in
+    let sn : sound near ≡ true = c.in_default.ensures.0 in
+    let sf : sound far ≡ true = c.in_default.ensures.1 in
     let l : i < rules near = rw (← c.rules.ensures.value) c.if-rules-k.false in
-    (c.rule_at.ensures.long, rw c.rule_at.ensures.same (rule-p near i sn l), entries_within_lem far sf, few_entries far sf)
+    (rw c.rule_at.ensures.same (rule-p near i sn l), entries_within_lem far sf, few_entries far sf)
 
 pub returns : goal.returns
 returns c =
@@ -78,8 +63,7 @@ returns c =
     let near : List ℕ = a.near.now in
     let far : List ℕ = a.far.now in
     let i : ℕ = a.k in
-    let sn : sound near ≡ true = sym c.sound.ensures ∙ c.if-not-sound.false in
-    let sf : sound far ≡ true =
-    sym c.sound-2.ensures ∙ c.if-not-sound-2.false in
+    let sn : sound near ≡ true = c.in_default.ensures.0 in
+    let sf : sound far ≡ true = c.in_default.ensures.1 in
     let l : i < rules near = rw (← c.rules.ensures.value) c.if-rules-k.false in
     c.at_far4.ensures ∙ at_far4_lem near far i sn sf l _ c.rule_at.ensures.same

@@ -7,27 +7,15 @@ use Rattle.rules.specs.Sound.{sound}
 use Rattle.rules.specs.Octets.{octet}
 use Rattle.rules.specs.Table.{entries, entry_at, policy_at}
 use Rattle.rules.specs.Entry as Entry
+use Rattle.pair.specs.Mismatch.{mismatch6}
 use Rattle.table.proofs.Bounds.{sound-size, entries_within_lem, entry_within}
 use Rattle.pair.proofs.Laws.{few_entries, di-policy_within, di-start}
-use Rattle.pair.proofs.Laws.{near_unsound6_lem, far_unsound6_lem, no_entry6_lem, not_di6_lem, at_far6_lem}
+use Rattle.pair.proofs.Laws.{no_entry6_lem, not_di6_lem, at_far6_lem}
 use Rattle.pair.proofs.mismatch6.Goals as goal
 
-pub returns-then-not-sound : goal.returns-then-not-sound
-returns-then-not-sound c =
-    let a = c.args in
-    let near : List ℕ = a.near.now in
-    let far : List ℕ = a.far.now in
-    let i : ℕ = a.i in
-    near_unsound6_lem near far i (sym c.sound.ensures ∙ c.if-not-sound.true)
-
-pub returns-then-not-sound-2 : goal.returns-then-not-sound-2
-returns-then-not-sound-2 c =
-    let a = c.args in
-    let near : List ℕ = a.near.now in
-    let far : List ℕ = a.far.now in
-    let i : ℕ = a.i in
-    let sn : sound near ≡ true = sym c.sound.ensures ∙ c.if-not-sound.false in
-    far_unsound6_lem near far i sn (sym c.sound-2.ensures ∙ c.if-not-sound-2.true)
+pub returns-in-Some : goal.returns-in-Some
+unfolding mismatch6
+returns-in-Some c = c.in-Some.ensures _
 
 pub entries-requires : goal.entries-requires
 entries-requires c =
@@ -35,7 +23,7 @@ entries-requires c =
     let near : List ℕ = a.near.now in
     let far : List ℕ = a.far.now in
     let i : ℕ = a.i in
-    let sn : sound near ≡ true = sym c.sound.ensures ∙ c.if-not-sound.false in
+    let sn : sound near ≡ true = c.in_default.ensures.0 in
     omega (arith, sound-size near sn)
 
 pub returns-then-entries-i : goal.returns-then-entries-i
@@ -44,9 +32,8 @@ returns-then-entries-i c =
     let near : List ℕ = a.near.now in
     let far : List ℕ = a.far.now in
     let i : ℕ = a.i in
-    let sn : sound near ≡ true =
-    sym c.sound.ensures ∙ c.if-not-sound.false in
-    let sf : sound far ≡ true = sym c.sound-2.ensures ∙ c.if-not-sound-2.false in
+    let sn : sound near ≡ true = c.in_default.ensures.0 in
+    let sf : sound far ≡ true = c.in_default.ensures.1 in
     let l : entries near ≤ i = rw (← c.entries.ensures.value) c.if-entries-i.true in
     no_entry6_lem near far i sn sf l
 
@@ -56,9 +43,8 @@ entry_at-e-requires c =
     let near : List ℕ = a.near.now in
     let far : List ℕ = a.far.now in
     let i : ℕ = a.i in
-    let sn : sound near ≡ true =
-    sym c.sound.ensures ∙ c.if-not-sound.false in
-    let sf : sound far ≡ true = sym c.sound-2.ensures ∙ c.if-not-sound-2.false in
+    let sn : sound near ≡ true = c.in_default.ensures.0 in
+    let sf : sound far ≡ true = c.in_default.ensures.1 in
     let l : i < entries near = rw (← c.entries.ensures.value) c.if-entries-i.false in
     entry_within near sn i l
 
@@ -68,8 +54,8 @@ returns-then-e-ne-END_M_GTP6_D_DI c =
     let near : List ℕ = a.near.now in
     let far : List ℕ = a.far.now in
     let i : ℕ = a.i in
-    let sn : sound near ≡ true = sym c.sound.ensures ∙ c.if-not-sound.false in
-    let sf : sound far ≡ true = sym c.sound-2.ensures ∙ c.if-not-sound-2.false in
+    let sn : sound near ≡ true = c.in_default.ensures.0 in
+    let sf : sound far ≡ true = c.in_default.ensures.1 in
     let l : i < entries near = rw (← c.entries.ensures.value) c.if-entries-i.false in
     let e = c.entry_at-e.ensures.same in
     not_di6_lem near far i sn sf l (λ q. c.if-e-ne-END_M_GTP6_D_DI.true (ap (λ (r : List ℕ). octet r 0) e ∙ q))
@@ -80,13 +66,12 @@ policy_at-policy-requires c =
     let near : List ℕ = a.near.now in
     let far : List ℕ = a.far.now in
     let i : ℕ = a.i in
-    let sn : sound near ≡ true =
-    sym c.sound.ensures ∙ c.if-not-sound.false in
-    let sf : sound far ≡ true = sym c.sound-2.ensures ∙ c.if-not-sound-2.false in
+    let sn : sound near ≡ true = c.in_default.ensures.0 in
+    let sf : sound far ≡ true = c.in_default.ensures.1 in
     let l : i < entries near = rw (← c.entries.ensures.value) c.if-entries-i.false in
     let e = c.entry_at-e.ensures.same in
     let b : Entry.behaviour (entry_at near i) ≡ 70 = ap (λ (r : List ℕ). octet r 0) (sym e) ∙ c.if-e-ne-END_M_GTP6_D_DI.false in
-    let policy = c.wide.ensures.0 ∙ ap (λ (r : List ℕ). octet r 5) e in
+    let policy = c.from.ensures ∙ ap (λ (r : List ℕ). octet r 5) e in
     rw policy (di-policy_within near i sn l b)
 
 pub at_far6-requires : goal.at_far6-requires
@@ -95,16 +80,14 @@ at_far6-requires c =
     let near : List ℕ = a.near.now in
     let far : List ℕ = a.far.now in
     let i : ℕ = a.i in
-    let sn : sound near ≡ true =
-    sym c.sound.ensures ∙ c.if-not-sound.false in
-    let sf : sound far ≡ true = sym c.sound-2.ensures ∙ c.if-not-sound-2.false in
+    let sn : sound near ≡ true = c.in_default.ensures.0 in
+    let sf : sound far ≡ true = c.in_default.ensures.1 in
     let l : i < entries near = rw (← c.entries.ensures.value) c.if-entries-i.false in
     let e = c.entry_at-e.ensures.same in
     let b : Entry.behaviour (entry_at near i) ≡ 70 = ap (λ (r : List ℕ). octet r 0) (sym e) ∙ c.if-e-ne-END_M_GTP6_D_DI.false in
-    let n = c.wide.ensures.0 ∙ ap (λ (r : List ℕ). octet r 5) e in
+    let n = c.from.ensures ∙ ap (λ (r : List ℕ). octet r 5) e in
     let policy = c.policy_at-policy.ensures.same ∙ ap (policy_at near) n in
-    let long = c.entry_at-e.ensures.long in
-    (long, c.policy_at-policy.ensures.long, rw policy (di-start near i sn l b), entries_within_lem far sf, few_entries far sf)
+    (rw policy (di-start near i sn l b), entries_within_lem far sf, few_entries far sf)
 
 pub returns : goal.returns
 returns c =
@@ -112,12 +95,11 @@ returns c =
     let near : List ℕ = a.near.now in
     let far : List ℕ = a.far.now in
     let i : ℕ = a.i in
-    let sn : sound near ≡ true = sym c.sound.ensures ∙ c.if-not-sound.false in
-    let sf : sound far ≡ true =
-    sym c.sound-2.ensures ∙ c.if-not-sound-2.false in
+    let sn : sound near ≡ true = c.in_default.ensures.0 in
+    let sf : sound far ≡ true = c.in_default.ensures.1 in
     let l : i < entries near = rw (← c.entries.ensures.value) c.if-entries-i.false in
     let e = c.entry_at-e.ensures.same in
     let b : Entry.behaviour (entry_at near i) ≡ 70 = ap (λ (r : List ℕ). octet r 0) (sym e) ∙ c.if-e-ne-END_M_GTP6_D_DI.false in
-    let n = c.wide.ensures.0 ∙ ap (λ (r : List ℕ). octet r 5) e in
+    let n = c.from.ensures ∙ ap (λ (r : List ℕ). octet r 5) e in
     let policy = c.policy_at-policy.ensures.same ∙ ap (policy_at near) n in
     c.at_far6.ensures ∙ at_far6_lem near far i sn sf l b _ _ e policy

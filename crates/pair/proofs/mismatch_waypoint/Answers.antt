@@ -36,8 +36,8 @@ entry_at-requires c =
     let sid : List ℕ = c.args.sid.now in
     let h : sound t ≡ true = sym c.sound.ensures ∙ c.if-not-sound.false in
     let l : length sid ≡ 16 = c.if-sid-ne16.false in
-    let w = c.window16.ensures in
-    let m = matched t sid _ l w c.find-found.ensures c.in-At.is in
+    let w = c.window.ensures in
+    let m = matched t sid _ l w c.find-found.ensures c.in-Some.is in
     found-entry_within t h sid _ m
 
 pub told-requires : goal.told-requires
@@ -47,28 +47,28 @@ told-requires c =
     let h : sound t ≡ true =
     sym c.sound.ensures ∙ c.if-not-sound.false in
     let l : length sid ≡ 16 = c.if-sid-ne16.false in
-    let w = c.window16.ensures in
-    let m = matched t sid _ l w c.find-found.ensures c.in-At.is in
+    let w = c.window.ensures in
+    let m = matched t sid _ l w c.find-found.ensures c.in-Some.is in
     omega (arith, few_entries t h, (matched_entry t sid _ m).below)
 
-pub returns-in-Nothing : goal.returns-in-Nothing
-returns-in-Nothing c =
+pub returns-in-None : goal.returns-in-None
+returns-in-None c =
     let t : List ℕ = c.args.table.now in
     let sid : List ℕ = c.args.sid.now in
     let h : sound t ≡ true = sym c.sound.ensures ∙ c.if-not-sound.false in
     let l : length sid ≡ 16 = c.if-sid-ne16.false in
-    let w = c.window16.ensures in
-    let m = matched t sid _ l w c.find-found.ensures c.in-Nothing.is in
+    let w = c.window.ensures in
+    let m = matched t sid _ l w c.find-found.ensures c.in-None.is in
     at_waypoint_lem t sid h l _ m
 
-pub returns-in-At : goal.returns-in-At
-returns-in-At c =
+pub returns-in-Some : goal.returns-in-Some
+returns-in-Some c =
     let t : List ℕ = c.args.table.now in
     let sid : List ℕ = c.args.sid.now in
     let h : sound t ≡ true =
     sym c.sound.ensures ∙ c.if-not-sound.false in
     let l : length sid ≡ 16 = c.if-sid-ne16.false in
-    let w = c.window16.ensures in
-    let m = matched t sid _ l w c.find-found.ensures c.in-At.is in
+    let w = c.window.ensures in
+    let m = matched t sid _ l w c.find-found.ensures c.in-Some.is in
     let k = at_waypoint_lem t sid h l _ m in
     c.told.ensures ∙ (rw (← c.entry_at.ensures.same, ← c.unless.ensures) at k)

@@ -11,7 +11,9 @@ pub returns : goal.returns
 unfolding path_front
 returns c =
     let a = c.args in
-    let f = a.upper ∷ (2 * a.n) ∷ 4 ∷ (a.n - 1) ∷ (a.n - 1) ∷ 0 ∷ 0 ∷ 0 ∷ [] in
+    let p = a.plan in
+    let n = p.waypoints + p.tail in
+    let f = p.upper ∷ (2 * n) ∷ 4 ∷ (n - 1) ∷ (n - 1) ∷ 0 ∷ 0 ∷ 0 ∷ [] in
     run_as (next c.put_ipv6.ensures _ 8 c.copy_to.ensures
     refl refl (omega arith))
-    (ipv6_before a.class (8 + 16 * a.n + a.size) 43 a.hops a.source a.to f)
+    (ipv6_before p.trafficClass (8 + 16 * n + p.size) 43 p.hopLimit p.source a.to f)

@@ -8,4 +8,4 @@ returns c =
     let a = c.args in
     let k = c.loop-i in
     let e : k.i ≡ 16 = omega arith in
-    all_looked a.address a.prefix a.bits k.same (omega arith) (omega arith) (rw e at k.invariant.1)
+    all_looked a.address a.prefix a.bits k.same (omega arith) (omega arith) (rw e at k.invariant)

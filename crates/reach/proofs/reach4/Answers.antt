@@ -1,32 +1,9 @@
 use Rattle.std.proofs.Common.{rules}
-use mathlib.Core.Path.{◌≡◌, sym, ◌∙◌}
-use native.Mathlib.Omega.{arith}
-use Rattle.rules.specs.Table.{entries}
-use Rattle.matching.proofs.Longest.{longest-none, longest_hit, longest_miss, found_below}
 use Rattle.reach.specs.Reach.{reach4}
-use Rattle.reach.proofs.reach4.Goals.{then-entry_reached4, else-entry_reached4}
 use Rattle.reach.proofs.reach4.Goals as goal
-
-pub loop-i-init : goal.loop-i-init
-loop-i-init c = (search rules, sym (longest-none _ _))
-
-pub longer_entry-found-requires : goal.longer_entry-found-requires
-longer_entry-found-requires c = (omega arith, rw c.loop-i.invariant.1 (found_below _ _ _))
-
-pub loop-i-preserved : goal.loop-i-preserved
-loop-i-preserved c =
-    let k = c.loop-i in (
-      omega arith,
-      elim c.if-entry_reached4.branch [
-        | then-entry_reached4 w ↦ w.found-is ∙ w.longer_entry-found.ensures ∙ rw k.invariant.1
-            (sym (longest_hit _ _ k.i (sym c.entry_reached4.ensures ∙ w.if-entry_reached4.true)))
-        | else-entry_reached4 w ↦ w.found-is ∙ k.invariant.1
-            ∙ sym (longest_miss _ _ k.i (sym c.entry_reached4.ensures ∙ w.if-entry_reached4.false))
-      ],
-    )
 
 pub returns : goal.returns
 unfolding reach4
 returns c =
-    let e : c.loop-i.i ≡ entries c.args.table.now = omega arith in
-    rw (← e) c.loop-i.invariant.1
+    let whole = rw c.unwrap-r.ensures at c.as_array.ensures.cases in
+    rw (← whole.same) (c.longest_entry.ensures _ (λ i b l k. search rules) _ (λ i b l k. k))

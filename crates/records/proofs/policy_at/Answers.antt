@@ -3,4 +3,4 @@ use Rattle.records.proofs.policy_at.Goals as goal
 
 pub returns : goal.returns
 unfolding policy_at
-returns c = rw (← c.policies_start.ensures.value) c.part.ensures
+returns c = record { same = rw (← c.policies_start.ensures.value) c.part.ensures.same }

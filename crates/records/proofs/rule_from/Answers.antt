@@ -3,4 +3,4 @@ use Rattle.records.proofs.rule_from.Goals as goal
 
 pub returns : goal.returns
 unfolding rule_at
-returns c = rw (← c.requires.0) c.part.ensures
+returns c = record { same = rw (← c.requires.0) c.part.ensures.same }

@@ -3,7 +3,7 @@ use native.Mathlib.Omega.{arith}
 use lib.ListN.{length}
 use Rattle.rules.specs.Octets.{Octets}
 use Rattle.rules.specs.Answer.{plain}
-use Rattle.answer.proofs.Settling.{answered_as, answered_named, answered-packed}
+use Rattle.answer.proofs.Settling.{settled_as, answered_named, answered-settled, answered-packed}
 use Rattle.report.proofs.Laws.{unsound_none, reported}
 use Rattle.report.proofs.icmp_ipv6.Goals as goal
 
@@ -22,5 +22,6 @@ returns c =
     let refusal = c.refusal_in-r.ensures in
     let octets : Octets a.packet.now = λ i. (c.type_inv.packet i).fits in
     let same = reported a.packet.now a.table.now octets _ _ answer refusal (length a.out.now) in
-    answered-packed _ _ _ _ _ (answered_as _ _ _ _ _ same c.about-a.ensures) (omega arith) (omega arith)
+    answered-packed _ _ _ _ _ (answered-settled _ _ _ _ _ (settled_as _ _ _ _ _ same c.about.ensures) c.from.ensures)
+    (omega arith) (omega arith)
     (omega arith) (omega arith) c.pack-2.ensures

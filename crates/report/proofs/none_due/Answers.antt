@@ -12,9 +12,9 @@ unfolding header
 returns c =
     let a = c.args in
     let p = a.packet.now in
-    let view = c.header_of-h.ensures ∙ ap (λ (f : List ℕ). header_of f (length p)) c.window48.ensures
+    let view = c.header_of-h.ensures ∙ ap (λ (f : List ℕ). header_of f (length p)) c.window.ensures
     ∙ header_front p (length p) in
-    let source = c.window16-source.ensures in
+    let source = c.window-source.ensures in
     let kind = c.octet_or_0-kind.ensures in
     let unspecified = c.is_unspecified.ensures in
     none_due_read a.answered p _ _ _ _ _ _ view source kind c.octet_or_0.ensures unspecified

@@ -11,7 +11,7 @@ loop-k-preserved c =
     let l = c.loop-k in
     let a = c.args in
     reversing_next a.out.now a.at a.s.now a.from a.n _ _ _ l.k l.invariant (omega arith) (omega (arith, c))
-    c.sixteen-address.ensures.0 copied.ensures copied.auto.out
+    c.array-address.ensures copied.ensures copied.auto.out
 
 pub returns : goal.returns
 returns c =

@@ -9,7 +9,7 @@ use Rattle.rules.specs.Octets.{Octets}
 use Rattle.rules.specs.Checksum.{word_sum}
 use Rattle.rules.proofs.Checksums.{word_sum-append, octets-append}
 use Rattle.rules.proofs.UdpChecksums.{total_sum}
-use Rattle.sum.proofs.Parts.{array_octets, parts_mod}
+use Rattle.sum.proofs.Parts.{array_octets, both_mod, parts_mod}
 use Rattle.udp.proofs.Laws.{total-checksum}
 use Rattle.udp.proofs.checksum.Goals as goal
 
@@ -28,13 +28,15 @@ returns c =
     let wu : word_sum u ≡ word_sum a.head + word_sum rest = word_sum-append a.head rest (omega arith) in
     let x = c.unreduced_address in
     let y = c.unreduced_address-2 in
-    let w = c.twelve in
-    let z = c.unreduced in
-    let n : ℕ = 24 + length rest + 17 + word_sum a.head in
-    let m = parts_mod x.result y.result z.result (word_sum a.from) (word_sum a.to) (word_sum rest) n x.ensures.0
-    y.ensures.0 z.ensures.0 in
-    let p : x.result + y.result + (24 + length rest) + 17 + w.result + z.result ≡ x.result + y.result + z.result + n = omega arith in
-    let q : word_sum a.from + word_sum a.to + word_sum rest + n ≡ total_sum a.from a.to u = omega arith in
+    let w = c.unreduced in
+    let z = c.unreduced-2 in
+    let n : ℕ = 24 + length rest + 17 in
+    let h = both_mod w.result z.result (word_sum a.head) (word_sum rest) w.ensures.0 z.ensures.0 in
+    let m = parts_mod x.result y.result (w.result + z.result) (word_sum a.from) (word_sum a.to) (word_sum a.head + word_sum rest) n
+    x.ensures.0 y.ensures.0 h in
+    let p : x.result + y.result + (24 + length rest) + 17 + w.result + z.result ≡ x.result + y.result + (w.result + z.result) + n =
+    omega arith in
+    let q : word_sum a.from + word_sum a.to + (word_sum a.head + word_sum rest) + n ≡ total_sum a.from a.to u = omega arith in
     c.complement.ensures
     ∙ total-checksum a.from a.to u _ lf lt (omega arith) (array_octets 16 a.from _ g.0) (array_octets 16 a.to _ g.1.0) ou
     (ap (λ (n : ℕ). n % 65535) p ∙ m ∙ ap (λ (n : ℕ). n % 65535) q)

@@ -1,4 +1,5 @@
 use Rattle.waypoint.proofs.AtWaypoint.{chain_judged, step_judged, step_head, front_size}
+use Rattle.std.proofs.lemmas.Result.{err_from_is_err_and}
 use Rattle.answer.proofs.Calling.{Judged, plan_refused, plan_no_room, plan_sent}
 use Rattle.rules.specs.Octets.{window}
 use Rattle.rules.specs.Answer.{any, verdict}
@@ -6,7 +7,7 @@ use Rattle.rules.specs.Header.{bad_chain, WellFormed}
 use Rattle.rules.specs.Waypoint.{Routing, routing, step, step_rows, with_routing}
 use Rattle.rules.specs.Plan.{waypoint_plan}
 use Rattle.rules.specs.declared.Header.{Header}
-use Rattle.rules.specs.declared.Verdict.TheVariants.{Refuse}
+use Rattle.std.specs.Prelude.{Err}
 use Rattle.rules.proofs.Plans.{waypoint_carried_out}
 use Rattle.rules.proofs.Windows.{window-length}
 use lib.ListN.{length}
@@ -39,38 +40,41 @@ pub returns-then-bad_chain : goal.returns-then-bad_chain
 returns-then-bad_chain c =
     let p : List ℕ = c.args.packet.now in
     let j = chain_judged p c.args.h c.requires.0 (sym c.bad_chain.ensures ∙ c.if-bad_chain.true) in
-    plan_refused _ p _ (waypoint_carried_out p) j _ _ _ (ap Refuse (sym c.bad_chain-then-bad_chain.ensures)) c.refused.ensures
+    plan_refused _ p _ (waypoint_carried_out p) j _ _ _ refl (ap Err c.bad_chain-then-bad_chain.ensures)
 
-pub send-a-requires : goal.send-a-requires
-send-a-requires c =
+pub send-requires : goal.send-requires
+send-requires c =
     let p : List ℕ = c.args.packet.now in
     let j = judged p c.args.h c.requires.0 c.bad_chain.ensures c.if-bad_chain.false c.args.front c.requires.1 c.segment_at.ensures
     c.at-segment.ensures c.of.ensures in
-    (j.within c.in-Next.ensures.0, omega (arith, c.requires.0.short))
+    (j.within c.in_ok-next.ensures.0, omega (arith, c.requires.0.short))
 
-pub returns-in-Refused : goal.returns-in-Refused
-returns-in-Refused c =
+pub returns-in_err-next : goal.returns-in_err-next
+returns-in_err-next c =
     let p : List ℕ = c.args.packet.now in
     let j = judged p c.args.h c.requires.0 c.bad_chain.ensures c.if-bad_chain.false c.args.front c.requires.1 c.segment_at.ensures
     c.at-segment.ensures c.of.ensures in
-    plan_refused _ p _ (waypoint_carried_out p) j _ _ _ c.in-Refused.ensures c.refused-in-Refused.ensures
+    let e = err_from_is_err_and c.from_residual.result c.from_residual.ensures.1 in
+    plan_refused _ p _ (waypoint_carried_out p) j _ _ _ c.in_err-next.ensures (e.1 ∙ ap Err e.2)
 
-pub returns-then-a-eq0 : goal.returns-then-a-eq0
-returns-then-a-eq0 c =
+pub returns-in_err-sent : goal.returns-in_err-sent
+returns-in_err-sent c =
     let p : List ℕ = c.args.packet.now in
     let j = judged p c.args.h c.requires.0 c.bad_chain.ensures c.if-bad_chain.false c.args.front c.requires.1 c.segment_at.ensures
     c.at-segment.ensures c.of.ensures in
-    let e = headed p c.args.h c.requires.0 c.bad_chain.ensures c.if-bad_chain.false c.args.front c.requires.1 c.segment_at.ensures
-    c.at-segment.ensures c.of.ensures c.in-Next.ensures.1 c.window48-again.ensures in
-    plan_sent _ p _ (waypoint_carried_out p) j c.in-Next.ensures.0 c.send-a.ensures e c.if-a-eq0.true c.put_front.ensures
+    let h = headed p c.args.h c.requires.0 c.bad_chain.ensures c.if-bad_chain.false c.args.front c.requires.1 c.segment_at.ensures
+    c.at-segment.ensures c.of.ensures {again = window p 0 48} c.in_ok-next.ensures.1 refl in
+    let long = ap (λ (r : Routing). length r.destination) c.in_ok-next.ensures.1 ∙ ap length c.at-segment.ensures ∙ window-length p _ 16 in
+    let e = err_from_is_err_and c.from_residual-in_err-sent.result c.from_residual-in_err-sent.ensures.1 in
+    rw (e.1, e.2)
+    (plan_no_room _ p _ (waypoint_carried_out p) j c.in_ok-next.ensures.0 c.in_err-sent.ensures h refl
+    (front_size _ _ (window-length p 0 48) long))
 
-pub returns-else-a-eq0 : goal.returns-else-a-eq0
-returns-else-a-eq0 c =
+pub returns : goal.returns
+returns c =
     let p : List ℕ = c.args.packet.now in
     let j = judged p c.args.h c.requires.0 c.bad_chain.ensures c.if-bad_chain.false c.args.front c.requires.1 c.segment_at.ensures
     c.at-segment.ensures c.of.ensures in
-    let e = headed p c.args.h c.requires.0 c.bad_chain.ensures c.if-bad_chain.false c.args.front c.requires.1 c.segment_at.ensures
-    c.at-segment.ensures c.of.ensures {again = window p 0 48} c.in-Next.ensures.1 refl in
-    let long = ap (λ (r : Routing). length r.destination) c.in-Next.ensures.1 ∙ ap length c.at-segment.ensures ∙ window-length p _ 16 in
-    plan_no_room _ p _ (waypoint_carried_out p) j c.in-Next.ensures.0 c.send-a.ensures e c.if-a-eq0.false
-    (front_size _ _ (window-length p 0 48) long)
+    let h = headed p c.args.h c.requires.0 c.bad_chain.ensures c.if-bad_chain.false c.args.front c.requires.1 c.segment_at.ensures
+    c.at-segment.ensures c.of.ensures c.in_ok-next.ensures.1 c.window-again.ensures in
+    plan_sent _ p _ (waypoint_carried_out p) j c.in_ok-next.ensures.0 c.in_ok-sent.ensures h refl c.put_front.ensures

@@ -1,18 +1,12 @@
 use Rattle.std.proofs.Common.{rules}
-use mathlib.Core.Path.{◌≡◌}
-use native.Mathlib.Numerals.{towards_suc}
-use native.Mathlib.Omega.{arith}
+use mathlib.Core.Path.{◌≡◌, refl, ◌∙◌}
 use lib.ListN.{length}
-use Rattle.rules.specs.Octets.{window}
-use Rattle.args.specs.Value.{value}
-use Rattle.args.proofs.Laws.{args_stored}
+use Rattle.rules.specs.Args.{with_args}
+use Rattle.rules.proofs.Splices.{splice_parts}
 use Rattle.args.proofs.Args.in_sid.Goals as goal
 
 pub returns : goal.returns
-unfolding window
+unfolding with_args
 returns c =
-    let l : length c.octets-octets.result ≡ 5 = search rules in
-    let n : length c.args.sid ≡ 16 = search rules in
-    rw c.octet_of-at.ensures
-    (simp towards_suc (args_stored c.args.sid c.octets-octets.result c.args.start (value c.args.self) c.octets-octets.ensures l
-    (omega arith)))
+    let l : length c.octets.result ≡ 5 = search rules in
+    c.copy_to.ensures ∙ splice_parts _ _ _ ∙ rw (l, c.octets.ensures, c.octet_of.ensures) refl

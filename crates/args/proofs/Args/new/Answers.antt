@@ -7,7 +7,8 @@ use lib.ListN.{length}
 use Rattle.rules.specs.Octets.{window}
 use Rattle.rules.specs.Args.{args_at}
 use Rattle.args.specs.Value.{value}
-use Rattle.args.proofs.Laws.{window-all, args_back}
+use Rattle.args.proofs.Laws.{args_back}
+use Rattle.octets.proofs.Windows.{window-all}
 use Rattle.args.proofs.Args.new.Goals as goal
 
 pub returns : goal.returns

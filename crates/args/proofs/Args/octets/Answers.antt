@@ -6,7 +6,7 @@ use lib.ListN.{length}
 use Rattle.rules.specs.Octets.{window}
 use Rattle.rules.specs.Args.{first_octet, args_at}
 use Rattle.args.specs.Value.{value}
-use Rattle.args.proofs.Laws.{window-all}
+use Rattle.octets.proofs.Windows.{window-all}
 use Rattle.args.proofs.Args.octets.Goals as goal
 
 pub returns : goal.returns

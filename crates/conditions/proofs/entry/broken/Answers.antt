@@ -10,8 +10,10 @@ use Rattle.conditions.proofs.entry.broken.Goals as goal
 pub returns : goal.returns
 unfolding entry_broken
 returns c =
-    let e : List ℕ = c.args.e.now in
-    behind 1 c.behaviour_known.ensures c.unless.ensures
+    let e : List ℕ = c.unwrap-e.result.now in
+    let whole = rw c.unwrap-e.ensures at c.as_array.ensures.cases in
+    rw (← whole.same)
+    (behind 1 c.behaviour_known.ensures c.unless.ensures
     (behind 2 (itself (prefix_length_within 128 (Entry.prefix_length e))) c.unless-from_2.ensures
     (behind 3 c.prefix_clear.ensures c.unless-from_3.ensures
     (behind 4 (itself (hop_limit_within (Entry.hop_limit e))) c.unless-from_4.ensures
@@ -23,4 +25,4 @@ returns c =
     (behind 10 (itself (where_used (uses_places e) (p_within (Entry.p e)))) c.unless-from_10.ensures
     (behind 11 (itself (where_used (uses_places e) (q_within (Entry.q e)))) c.unless-from_11.ensures
     (behind 12 (where_used_lem (uses_places e) c.prefix_before_address.ensures) c.unless-from_12.ensures
-    c.octet_9_broken.ensures)))))))))))
+    c.octet_9_broken.ensures))))))))))))

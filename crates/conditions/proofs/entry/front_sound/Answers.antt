@@ -13,7 +13,7 @@ returns c = λ q.
     record {
       bits = le-leb (octet e 1) 128 (omega arith);
       clear =
-          sym (clear-words e 16 (octet e 1) (rw (← c.wide.ensures.0) c.words_clear.ensures)
+          sym (clear-words e 16 (octet e 1) (rw (← c.from.ensures) c.words_clear.ensures)
           c.eight.ensures.value c.eight-2.ensures.value) ∙ q;
       hopLimit = le-leb 1 (octet e 2) (omega arith);
     }

@@ -10,8 +10,10 @@ use Rattle.conditions.proofs.rule.broken.Goals as goal
 pub returns : goal.returns
 unfolding rule_broken
 returns c =
-    let r : List ℕ = c.args.r.now in
-    behind 1 (itself (prefix_length_within 32 (Rule.prefix_length r))) c.unless.ensures
+    let r : List ℕ = c.unwrap-r.result.now in
+    let whole = rw c.unwrap-r.ensures at c.as_array.ensures.cases in
+    rw (← whole.same)
+    (behind 1 (itself (prefix_length_within 32 (Rule.prefix_length r))) c.unless.ensures
     (behind 2 c.prefix_clear.ensures c.unless-from_2.ensures
     (behind 3 (itself (hop_limit_within (Rule.hop_limit r))) c.unless-from_3.ensures
     (behind 4 c.direction_known.ensures c.unless-from_4.ensures
@@ -21,4 +23,4 @@ returns c =
     (behind 8 c.sid_prefix_clear.ensures c.unless-from_8.ensures
     (behind 9 c.source_prefix_clear.ensures c.unless-from_9.ensures
     (behind 10 (itself (waypoints_within r)) c.unless-from_10.ensures
-    (behind 11 (itself (reserved_clear (Rule.reserved r))) c.unless-from_11.ensures refl))))))))))
+    (behind 11 (itself (reserved_clear (Rule.reserved r))) c.unless-from_11.ensures refl)))))))))))

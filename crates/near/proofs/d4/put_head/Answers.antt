@@ -1,25 +1,22 @@
 use Rattle.near.proofs.AtD4.{put_none, put_some}
-use Rattle.copying.proofs.Laws.{run_as}
+use Rattle.copying.proofs.Laws.{run_as, run_count}
 use Rattle.rules.specs.Ipv6.{ipv6}
-use Rattle.rules.specs.Rule as Rule
 use Rattle.rules.specs.Plan.{head_along}
-use Prim.Native.Nat.{ℕ}
-use mathlib.Core.List.{List, []}
-use mathlib.Core.Path.{ap}
+use Prim.Native.Nat.{◌+◌, ◌*◌}
+use mathlib.Core.List.{[]}
 use Rattle.near.proofs.d4.put_head.Goals as goal
 
-pub returns-then-w-eq0 : goal.returns-then-w-eq0
-returns-then-w-eq0 c =
-    let a = c.args in
-    let r = a.r.now in
-    let run = run_as c.put_ipv6.ensures (ap (λ (u : ℕ). ipv6 a.class a.size u (Rule.hop_limit r) a.source
-    a.sid []) c.inner_next-upper.ensures) in
-    put_none r a.w a.class _ a.source a.sid a.size _ _ c.requires.count c.if-w-eq0.true run
+pub returns-then-plan-eq0 : goal.returns-then-plan-eq0
+returns-then-plan-eq0 c =
+    let p = c.args.plan in
+    let q = c.requires in
+    put_none c.args.r.now p.waypoints p.trafficClass p.upper p.source p.sid p.size _ _ q.count c.if-plan-eq0.true
+    (run_as c.put_ipv6.ensures (λ i. ipv6 p.trafficClass p.size p.upper (q.hops i) p.source p.sid []))
 
 pub returns : goal.returns
 returns c =
-    let a = c.args in
-    let r = a.r.now in
-    let along : ℕ → List ℕ = λ u. head_along a.class u (Rule.hop_limit r) a.source r 48 a.w 1 a.sid a.sid a.size in
-    put_some r a.w a.class _ a.source a.sid a.size _ _ c.requires.count c.if-w-eq0.false
-    (run_as c.put_path.ensures (ap along c.inner_next-upper.ensures))
+    let p = c.args.plan in
+    let q = c.requires in
+    put_some c.args.r.now p.waypoints p.trafficClass p.upper p.source p.sid p.size _ _ q.count c.if-plan-eq0.false
+    (run_count (λ i. 48 + 16 * (p.waypoints + q.tail i)) (run_as c.put.ensures
+    (λ i. head_along p.trafficClass p.upper (q.hops i) p.source c.args.r.now (q.from i) p.waypoints (q.tail i) p.sid (q.end i) p.size)))

@@ -1,4 +1,4 @@
-use Rattle.gtpu.proofs.Laws.{alone-refused, alone_passed}
+use Rattle.rules.proofs.Judging.{hands_on, passed_first}
 use Rattle.rules.specs.Datagram.{message_rows}
 use Rattle.near.proofs.AtGtp6D.{udp_long}
 use Rattle.near.proofs.gtp6d.judge_datagram.Goals as goal
@@ -7,18 +7,16 @@ use Rattle.near.proofs.gtp6d.judge_datagram.Goals as goal
 pub judge_checked-requires : goal.judge_checked-requires
 judge_checked-requires c =
     let a = c.args in
-    let v = c.requires.1 in (
-      c.requires.0,
-      record {
-        arrived = v.arrived;
-        long = udp_long a.packet.now a.h.upperAt a.g _ v.view c.judge_udp-datagram.ensures c.in-Pass.is;
-      },
-    )
+    let v = c.requires in
+    record {
+      arrived = v.arrived;
+      long = udp_long a.packet.now a.h.upperAt a.m.now.view _ v.view c.judge_udp.ensures c.in_ok-judge_udp.was;
+    }
 
-pub returns-in-Refuse : goal.returns-in-Refuse
+pub returns-in_err-judge_udp : goal.returns-in_err-judge_udp
 unfolding message_rows
-returns-in-Refuse c = search alone-refused
+returns-in_err-judge_udp c = hands_on _ _ _ _ _ c.from_residual.ensures.1 c.judge_udp.ensures c.in_err-judge_udp.was
 
-pub returns-in-Pass : goal.returns-in-Pass
+pub returns : goal.returns
 unfolding message_rows
-returns-in-Pass c = search alone_passed
+returns c = passed_first _ _ _ _ c.judge_udp.ensures c.in_ok-judge_udp.was c.judge_checked.ensures

@@ -9,4 +9,4 @@ returns-then-condition-eq0 c = rw c.if-condition-eq0.true refl
 
 pub returns : goal.returns
 unfolding told
-returns c = rw (ne_eqb _ _ c.if-condition-eq0.false) refl
+returns c = rw (ne_eqb _ _ c.if-condition-eq0.false, c.from.ensures, c.from-2.ensures) refl

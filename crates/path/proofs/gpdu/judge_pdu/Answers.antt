@@ -1,8 +1,0 @@
-use Rattle.rules.proofs.Judging.{refused-first, passed_first}
-use Rattle.path.proofs.gpdu.judge_pdu.Goals as goal
-
-pub returns-in-Refuse : goal.returns-in-Refuse
-returns-in-Refuse c = search refused-first
-
-pub returns-in-Pass : goal.returns-in-Pass
-returns-in-Pass c = search passed_first
