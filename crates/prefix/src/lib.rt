@@ -5,6 +5,7 @@
 ghost use Rattle.std.specs.Prelude.{◌≡◌, ℕ, ◌+◌, ◌-◌, ◌*◌, ◌^◌, ◌%◌, ◌≤◌, ◌<◌, eqb, length};
 ghost use Rattle.rules.specs.Octets.{number};
 ghost use Rattle.rules.specs.Prefix.{under, clear};
+ghost use Rattle.prefix.specs.Lying.{Lying};
 
 const IPV4_BITS: usize = 32;
 
@@ -45,19 +46,19 @@ fn same_octets(a: &[u8], b: &[u8], n: usize) -> bool
     ensures { result ≡ eqb (number a.now 0 n) (number b.now 0 n) }
 {
     for k in 0..n / 8 {
-        if numbers::eight(a, 8 * k) != numbers::eight(b, 8 * k) {
+        if eight_octets(a, 8 * k) != eight_octets(b, 8 * k) {
             return false;
         }
     }
     let mut i = n / 8 * 8;
     if i + 4 <= n {
-        if numbers::four(a, i) != numbers::four(b, i) {
+        if four_octets(a, i) != four_octets(b, i) {
             return false;
         }
         i += 4;
     }
     if i + 2 <= n {
-        if numbers::two(a, i) != numbers::two(b, i) {
+        if two_octets(a, i) != two_octets(b, i) {
             return false;
         }
         i += 2;
@@ -66,6 +67,29 @@ fn same_octets(a: &[u8], b: &[u8], n: usize) -> bool
         return a[i] == b[i];
     }
     true
+}
+
+// Two, four and eight octets in one number as they lie: the first is the lowest. It only serves to tell whether octets are the same. Each
+// compiles to one load.
+fn two_octets(s: &[u8], at: usize) -> u16
+    requires { at + 2 ≤ length s.now }
+    ensures { Lying s.now at 2 result }
+{
+    u16::from_le_bytes(octets::array(s, at))
+}
+
+fn four_octets(s: &[u8], at: usize) -> u32
+    requires { at + 4 ≤ length s.now }
+    ensures { Lying s.now at 4 result }
+{
+    u32::from_le_bytes(octets::array(s, at))
+}
+
+fn eight_octets(s: &[u8], at: usize) -> u64
+    requires { at + 8 ≤ length s.now }
+    ensures { Lying s.now at 8 result }
+{
+    u64::from_le_bytes(octets::array(s, at))
 }
 
 // The last `rest` bits of a word are 0.
