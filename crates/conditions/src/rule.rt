@@ -17,7 +17,7 @@ fn sid_prefix_clear(r: &Rule) -> bool
     ensures { result ≡ sid_prefix_clear r.now }
 {
     prefix::clear16(
-        records::part::<{ records::IPV6_ADDRESS_SIZE }>(r, rule::SID_PREFIX),
+        records::array::<{ records::IPV6_ADDRESS_SIZE }>(r, rule::SID_PREFIX),
         8 * usize::from(r[rule::P]),
     )
 }
@@ -26,7 +26,7 @@ fn source_prefix_clear(r: &Rule) -> bool
     ensures { result ≡ source_prefix_clear r.now }
 {
     prefix::clear16(
-        records::part::<{ records::IPV6_ADDRESS_SIZE }>(r, rule::SOURCE_PREFIX),
+        records::array::<{ records::IPV6_ADDRESS_SIZE }>(r, rule::SOURCE_PREFIX),
         8 * usize::from(r[rule::Q]),
     )
 }

@@ -35,5 +35,5 @@ pub fn prefix_of(e: &[u8]) -> &[u8; crate::IPV6_ADDRESS_SIZE]
     requires { length e.now ≡ 64 }
     ensures same { result.now ≡ prefix e.now }
 {
-    crate::part(e, PREFIX)
+    crate::array(e, PREFIX)
 }

@@ -79,34 +79,43 @@ pub fn size(table: &[u8]) -> usize
     policies_start(table) + POLICY_SIZE * policies(table)
 }
 
-// The octets from `at` on, as many as the array has.
-pub fn part<const N: usize>(s: &[u8], at: usize) -> &[u8; N]
+// The n octets from `at` on.
+pub fn part(s: &[u8], at: usize, n: usize) -> &[u8]
+    requires { at + n ≤ length s.now }
+    ensures same { result.now ≡ window s.now at n }
+    ensures long { length result.now ≡ n }
+{
+    let end = at + n;
+    &s[at..end]
+}
+
+// The same, as many as the array has.
+pub fn array<const N: usize>(s: &[u8], at: usize) -> &[u8; N]
     requires { at + N ≤ length s.now }
     ensures same { result.now ≡ window s.now at N }
 {
-    let end = at + N;
-    s[at..end].as_array().unwrap()
+    part(s, at, N).as_array().unwrap()
 }
 
 pub fn entry_at(table: &[u8], i: usize) -> &Entry
     requires { 16 + 64 * (i + 1) ≤ length table.now }
     ensures same { result.now ≡ entry_at table.now i }
 {
-    part(table, HEADER_SIZE + ENTRY_SIZE * i)
+    array(table, HEADER_SIZE + ENTRY_SIZE * i)
 }
 
 pub fn rule_at(table: &[u8], k: usize) -> &Rule
     requires { rules_at table.now + 160 * (k + 1) ≤ length table.now }
     ensures same { result.now ≡ rule_at table.now k }
 {
-    part(table, rules_start(table) + RULE_SIZE * k)
+    array(table, rules_start(table) + RULE_SIZE * k)
 }
 
 pub fn policy_at(table: &[u8], j: usize) -> &Policy
     requires { policies_at table.now + 288 * (j + 1) ≤ length table.now }
     ensures same { result.now ≡ policy_at table.now j }
 {
-    part(table, policies_start(table) + POLICY_SIZE * j)
+    array(table, policies_start(table) + POLICY_SIZE * j)
 }
 
 // The same where it is known where the rules, and the policies, begin.
@@ -114,12 +123,12 @@ pub fn rule_from(table: &[u8], start: usize, k: usize) -> &Rule
     requires { (start ≡ rules_at table.now) × (start + 160 * (k + 1) ≤ length table.now) }
     ensures same { result.now ≡ rule_at table.now k }
 {
-    part(table, start + RULE_SIZE * k)
+    array(table, start + RULE_SIZE * k)
 }
 
 pub fn policy_from(table: &[u8], start: usize, j: usize) -> &Policy
     requires { (start ≡ policies_at table.now) × (start + 288 * (j + 1) ≤ length table.now) }
     ensures same { result.now ≡ policy_at table.now j }
 {
-    part(table, start + POLICY_SIZE * j)
+    array(table, start + POLICY_SIZE * j)
 }

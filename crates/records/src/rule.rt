@@ -30,5 +30,5 @@ pub fn prefix_of(r: &[u8]) -> &[u8; crate::IPV4_ADDRESS_SIZE]
     requires { length r.now ≡ 160 }
     ensures same { result.now ≡ prefix r.now }
 {
-    crate::part(r, PREFIX)
+    crate::array(r, PREFIX)
 }

@@ -3,4 +3,4 @@ use Rattle.records.proofs.entry_at.Goals as goal
 
 pub returns : goal.returns
 unfolding entry_at
-returns c = record { same = c.part.ensures.same }
+returns c = record { same = c.array.ensures.same }

@@ -3,4 +3,4 @@ use Rattle.records.proofs.policy_at.Goals as goal
 
 pub returns : goal.returns
 unfolding policy_at
-returns c = record { same = rw (← c.policies_start.ensures.value) c.part.ensures.same }
+returns c = record { same = rw (← c.policies_start.ensures.value) c.array.ensures.same }

@@ -3,4 +3,4 @@ use Rattle.records.proofs.policy_from.Goals as goal
 
 pub returns : goal.returns
 unfolding policy_at
-returns c = record { same = rw (← c.requires.0) c.part.ensures.same }
+returns c = record { same = rw (← c.requires.0) c.array.ensures.same }

@@ -3,4 +3,4 @@ use Rattle.records.proofs.rule_at.Goals as goal
 
 pub returns : goal.returns
 unfolding rule_at
-returns c = record { same = rw (← c.rules_start.ensures.value) c.part.ensures.same }
+returns c = record { same = rw (← c.rules_start.ensures.value) c.array.ensures.same }
