@@ -12,7 +12,7 @@ COLUMNS = 120
 SOURCE_COLUMNS = 140
 SOURCES = {".antt", ".c", ".h", ".py", ".rs", ".rt", ".sh"}
 NAMING = ("docs/RULES.md", "docs/STATEMENTS.md")
-ELSEWHERE = {"memcpy", "memmove"}  # of the C library
+ELSEWHERE = {"memcpy"}  # of the C library
 
 NAME = re.compile(r"`([A-Za-z][\w-]*(?:\.antt)?)`")
 WORD = re.compile(r"[A-Za-z_][\w-]*")
