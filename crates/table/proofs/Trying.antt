@@ -26,7 +26,7 @@ pub else_zero : (g : ℕ) → or_else 0 g ≡ g
 unfolding or_else
 else_zero g = refl
 
-else_fault : (f g : ℕ) → eqb f 0 ≡ false → or_else f g ≡ f
+pub else_fault : (f g : ℕ) → eqb f 0 ≡ false → or_else f g ≡ f
 unfolding or_else
 else_fault f g h = rw h refl
 
@@ -81,7 +81,7 @@ module _ (f : ℕ → ℕ) where
   unfolding first_fault
   first_more i a h = rw (add-one, a, h) (else_zero 0)
 
-  first_found : (n i : ℕ) → i < n → first_fault f i ≡ 0 → eqb (f i) 0 ≡ false → first_fault f n ≡ f i
+  pub first_found : (n i : ℕ) → i < n → first_fault f i ≡ 0 → eqb (f i) 0 ≡ false → first_fault f n ≡ f i
   unfolding first_fault
   first_found zero i l a h = absurd (not-suc-le-zero l)
   first_found (suc n) i l a h = pick (λ k. first_found n i k a h) (ℕ_discrete i n)
